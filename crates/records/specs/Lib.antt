@@ -1,0 +1,9 @@
+pub mod Answers
+pub mod Bytes
+pub mod Encodings
+pub mod Limits
+pub mod Modes
+pub mod States
+pub mod Sums
+pub mod Tokens
+pub mod Writes

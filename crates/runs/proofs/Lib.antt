@@ -1,0 +1,11 @@
+pub mod Links
+pub mod Placing
+pub mod Going
+pub mod ReactingReads
+pub mod ReactingWrites
+pub mod Reacting
+pub mod Staging
+pub mod Admitting
+pub mod Keeping
+pub mod Computed
+pub mod Recording
