@@ -16,6 +16,10 @@ buffer-limits b = leb (b .length) (b .capacity) && below-top (b .place) (b .capa
 abbrev pub row-limits : ChunkRow → Bool
 row-limits r = leb 1 (r .length) && (leb (r .length) 1073741824 && below-top (r .place) (r .length))
 
+-- no request moves more than 2^40 bytes
+abbrev pub few-bytes : ℕ → Bool
+few-bytes n = leb n 1099511627776
+
 -- 2^31 - 1 is the largest descriptor, an int
 abbrev pub descriptor-limits : ℕ → Bool
 descriptor-limits d = leb d 2147483647

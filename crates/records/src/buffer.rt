@@ -1,6 +1,6 @@
 //! Memory that a request names, and the limits of a place.
 ghost use mathlib.Core.Path.{_≡_};
-ghost use Rattle.records.specs.Limits.{below-top, buffer-limits, row-limits, descriptor-limits};
+ghost use Rattle.records.specs.Limits.{below-top, few-bytes, buffer-limits, row-limits, descriptor-limits};
 
 /// A place in the caller's memory with its capacity, and how much of it counts.
 #[derive(Clone, Copy)]
@@ -29,6 +29,13 @@ pub fn ends_below_top(place: u64, bytes: u64) -> bool
     ensures { λ r. ⌜ r ≡ below-top place bytes ⌝ }
 {
     place <= 140737488355328 && bytes <= 140737488355328 - place
+}
+
+/// Whether a request may move so many bytes.
+pub fn is_few_bytes(bytes: u64) -> bool
+    ensures { λ r. ⌜ r ≡ few-bytes bytes ⌝ }
+{
+    bytes <= 1099511627776
 }
 
 /// Whether a descriptor is one that a process can have.

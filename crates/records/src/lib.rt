@@ -15,6 +15,7 @@ pub use buffer::ChunkRow;
 pub use buffer::Iovec;
 pub use buffer::ends_below_top;
 pub use buffer::is_descriptor;
+pub use buffer::is_few_bytes;
 pub use denial::Denial;
 pub use id::FileId;
 pub use id::Id;

@@ -19,7 +19,7 @@ use Rattle.records.specs.declared.write.Source.{Source}
 use Rattle.records.specs.declared.write.Source.the-variants as source
 use Rattle.records.specs.declared.write.WriteBuffers.{WriteBuffers}
 use Rattle.records.specs.declared.write.WriteBuffers.the-variants as buffers
-use Rattle.records.specs.Limits.{below-top, buffer-limits, descriptor-limits}
+use Rattle.records.specs.Limits.{below-top, few-bytes, buffer-limits, descriptor-limits}
 use Rattle.records.specs.Modes.{started}
 use Rattle.records.specs.Writes.{write-length}
 use Rattle.rows.specs.Vectors.{admitted-total}
@@ -27,10 +27,6 @@ use Rattle.request.specs.declared.kinds.Request.{Request}
 use Rattle.request.specs.declared.kinds.Request.the-variants as request
 use Rattle.request.specs.declared.kinds.Wanted.{Wanted}
 use Rattle.request.specs.declared.kinds.Wanted.the-variants as wanted
-
--- no request moves more than 2^40 bytes
-abbrev pub few-bytes : ℕ → Bool
-few-bytes n = leb n 1099511627776
 
 -- rows whose bytes are known, with nothing reported
 abbrev pub rows-begun : (first count : ℕ) → Option ℕ → Option WriteBuffers

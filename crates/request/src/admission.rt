@@ -23,12 +23,11 @@ use records::WriteBuffers;
 use records::WriteMode;
 use records::ends_below_top;
 use records::is_descriptor;
+use records::is_few_bytes;
 use rows::rows_total;
 
 /// Direct reads begin and end at multiples of this.
 pub(crate) const BLOB_PAGE_SIZE: u64 = 4096;
-
-const MOST_BYTES: u64 = 1099511627776;
 
 const LAST_OFFSET: u64 = 9223372036854775807;
 
@@ -38,7 +37,7 @@ pub(crate) fn begin_write(table: &[ChunkRow], source: Source) -> Option<WriteBuf
 {
     match source {
         Source::Single { place, length } => {
-            if !ends_below_top(place, length) || length > MOST_BYTES {
+            if !ends_below_top(place, length) || !is_few_bytes(length) {
                 return None;
             }
             Some(WriteBuffers::Single(SingleWrite {
@@ -67,7 +66,7 @@ pub(crate) fn begin_write(table: &[ChunkRow], source: Source) -> Option<WriteBuf
 pub(crate) fn is_file_range(offset: u64, length: u64) -> bool
     ensures { λ r. ⌜ r ≡ range-limits offset length ⌝ }
 {
-    length <= MOST_BYTES && offset <= LAST_OFFSET && offset + length <= LAST_OFFSET
+    is_few_bytes(length) && offset <= LAST_OFFSET && offset + length <= LAST_OFFSET
 }
 
 // Where the pages that hold a range begin.
@@ -96,7 +95,7 @@ pub(crate) fn admit_recv(
     if !is_descriptor(descriptor)
         || !buffer.is_within_limits()
         || length > buffer.capacity
-        || length > MOST_BYTES
+        || !is_few_bytes(length)
     {
         return Err(Denial::LimitBroken);
     }

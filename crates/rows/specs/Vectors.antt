@@ -1,5 +1,5 @@
 -- The rows of a vectored write, their bytes, their cursor and their iovecs.
-use mathlib.Core.Bool.{Bool, true, false, cond, _&&_, _||_}
+use mathlib.Core.Bool.{Bool, true, false, cond, _&&_}
 use mathlib.Core.List.{List, [], _∷_, _++_}
 use Prim.Native.Nat.{ℕ, _+_, _-_, min}
 use lib.Dec.{leb, ltb}
@@ -13,7 +13,7 @@ use Rattle.records.specs.declared.buffer.Iovec.{Iovec}
 use Rattle.records.specs.declared.denial.Denial.{Denial}
 use Rattle.records.specs.declared.denial.Denial.the-variants.{ListTooShort}
 use Rattle.records.specs.declared.write.Cursor.{Cursor}
-use Rattle.records.specs.Limits.{row-limits}
+use Rattle.records.specs.Limits.{few-bytes, row-limits}
 use Rattle.records.specs.Sums.{plus}
 
 -- the rows of a write; a table has its first 65,536 rows
@@ -28,15 +28,18 @@ unfoldable pub total : List ChunkRow → ℕ
 total [] = 0
 total (r ∷ rs) = r .length + total rs
 
--- rows within their limits, and 2^40 bytes at most
-abbrev pub limited : Bool → ℕ → Option ℕ
-limited true bytes = cond (ltb 1099511627776 bytes) None (Some bytes)
-limited false bytes = None
-
 -- two rows or more, inside the table
+abbrev pub inside-table : (rows first count : ℕ) → Bool
+inside-table rows first count = leb 2 count && leb (first + count) (min rows 65536)
+
+-- each row within its limits
+abbrev pub limited : Bool → ℕ → Option ℕ
+limited true n = cond (few-bytes n) (Some n) None
+limited false n = None
+
 abbrev pub admitted-total : List ChunkRow → (first count : ℕ) → Option ℕ
-admitted-total table first count = cond (ltb count 2 || ltb (min (length table) 65536) (first + count)) None
-    (limited (all-within (range table first count)) (total (range table first count)))
+admitted-total table first count =
+    cond (inside-table (length table) first count) (limited (all-within (range table first count)) (total (range table first count))) None
 
 -- a row from an offset on
 abbrev pub iovec-of : ChunkRow → ℕ → Iovec
@@ -66,6 +69,10 @@ abbrev pub filled-list : List ChunkRow → (first count : ℕ) → Cursor → Li
 filled-list table first count cursor list =
     cond (ltb (length list) (length (carried table first count (cursor .row)))) list
     (iovecs-of (cursor .within) (carried table first count (cursor .row)) ++ drop (length (carried table first count (cursor .row))) list)
+
+-- the offset at which so many bytes end, where they end before the row does
+abbrev pub stop-in : ChunkRow → (within bytes : ℕ) → Option ℕ
+stop-in r within n = cond (ltb n (r .length - within)) (Some (within + n)) None
 
 -- from a row on, with some of its bytes done, so many bytes further
 unfoldable pub along : List ChunkRow → (row within bytes : ℕ) → Cursor

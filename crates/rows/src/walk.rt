@@ -2,14 +2,15 @@
 ghost use mathlib.Core.Path.{_≡_};
 ghost use Rattle.std.specs.Finite.{nth};
 ghost use lib.ListN.{length};
-ghost use Prim.Native.Nat.{_≤_, min};
-ghost use Rattle.rows.specs.Vectors.{range, carried, admitted-total, iovec-of, iovecs-of, iovec-bytes, filled-answer, filled-list, advanced};
+ghost use Prim.Native.Nat.{_-_, _≤_, min};
+ghost use Rattle.rows.specs.Vectors.{range, carried, inside-table, admitted-total, iovec-of, iovecs-of, iovec-bytes, filled-answer, filled-list, stop-in, advanced};
 use crate::places::at;
 use crate::places::put;
 use records::ChunkRow;
 use records::Cursor;
 use records::Denial;
 use records::Iovec;
+use records::is_few_bytes;
 
 /// The rows of the chunk table that count.
 const TABLE_ROWS: usize = 65536;
@@ -47,6 +48,13 @@ pub(crate) fn carried_at(
     row_at(table, first, count, row as usize + i)
 }
 
+// As many rows as one submission takes.
+pub(crate) fn one_batch(rows: usize) -> usize
+    ensures { λ r. ⌜ r ≡ min rows 1024 ⌝ }
+{
+    rows.min(IOVEC_BATCH_SIZE)
+}
+
 // How many rows a submission carries.
 pub(crate) fn carried_len(table: &[ChunkRow], first: u32, count: u32, row: u32) -> usize
     ensures { λ r. ⌜ r ≡ length (carried (now (table .entry)) first count row) ⌝ ∗ ⌜ r ≤ 1024 ⌝ }
@@ -56,14 +64,21 @@ pub(crate) fn carried_len(table: &[ChunkRow], first: u32, count: u32, row: u32) 
         .min(TABLE_ROWS)
         .saturating_sub(first as usize)
         .min(count as usize);
-    rows.saturating_sub(row as usize).min(IOVEC_BATCH_SIZE)
+    one_batch(rows.saturating_sub(row as usize))
+}
+
+// Whether a row range has two rows or more and ends with the table or before.
+pub(crate) fn is_inside_table(rows: usize, first: u32, count: u32) -> bool
+    ensures { λ r. ⌜ r ≡ inside-table rows first count ⌝ }
+{
+    count >= 2 && first as usize + count as usize <= rows.min(TABLE_ROWS)
 }
 
 /// The bytes of a row range, where each limit is kept.
 pub fn rows_total(table: &[ChunkRow], first: u32, count: u32) -> Option<u64>
     ensures { λ r. ⌜ r ≡ admitted-total (now (table .entry)) first count ⌝ }
 {
-    if count < 2 || first as usize + count as usize > table.len().min(TABLE_ROWS) {
+    if !is_inside_table(table.len(), first, count) {
         return None;
     }
     let mut sum: u64 = 0;
@@ -76,10 +91,17 @@ pub fn rows_total(table: &[ChunkRow], first: u32, count: u32) -> Option<u64>
         }
         sum += row.length;
     }
-    if sum > 1099511627776 {
+    if !is_few_bytes(sum) {
         return None;
     }
     Some(sum)
+}
+
+// The bytes of a row that are not done.
+pub(crate) fn left_in_row(row: ChunkRow, within: u64) -> u64
+    ensures { λ r. ⌜ r ≡ row .length - within ⌝ }
+{
+    row.length.saturating_sub(within)
 }
 
 // The iovec of a row from an offset on.
@@ -88,7 +110,7 @@ pub(crate) fn iovec_from(row: ChunkRow, within: u64) -> Iovec
 {
     Iovec {
         base: row.place.saturating_add(within),
-        length: row.length.saturating_sub(within),
+        length: left_in_row(row, within),
     }
 }
 
@@ -131,13 +153,23 @@ pub fn carried_bytes(table: &[ChunkRow], first: u32, count: u32, cursor: Cursor)
         let Some(row) = carried_at(table, first, count, cursor.row, i) else {
             return 0;
         };
-        bytes += row.length.saturating_sub(within) as u128;
+        bytes += left_in_row(row, within) as u128;
         within = 0;
     }
     if bytes > 18446744073709551615 {
         return 18446744073709551615;
     }
     bytes as u64
+}
+
+// Where bytes end inside a row, if they do not reach its end.
+pub(crate) fn stop_in_row(row: ChunkRow, within: u64, bytes: u64) -> Option<u64>
+    ensures { λ r. ⌜ r ≡ stop-in row within bytes ⌝ }
+{
+    if bytes < left_in_row(row, within) {
+        return Some(within + bytes);
+    }
+    None
 }
 
 /// The cursor after more bytes: past a row that is done, the next row's start.
@@ -151,14 +183,10 @@ pub fn advance(table: &[ChunkRow], first: u32, count: u32, cursor: Cursor, bytes
         let Some(chunk) = row_at(table, first, count, row as usize) else {
             return Cursor { row, within };
         };
-        let rest = chunk.length.saturating_sub(within);
-        if left < rest {
-            return Cursor {
-                row,
-                within: within + left,
-            };
+        if let Some(end) = stop_in_row(chunk, within, left) {
+            return Cursor { row, within: end };
         }
-        left -= rest;
+        left = left.saturating_sub(left_in_row(chunk, within));
         row += 1;
         within = 0;
     }

@@ -25,16 +25,16 @@ use Rattle.records.specs.declared.write.Source.{Source}
 use Rattle.records.specs.declared.write.Source.the-variants as source
 use Rattle.records.specs.declared.write.WriteBuffers.{WriteBuffers}
 use Rattle.records.specs.declared.write.WriteBuffers.the-variants as buffers
-use Rattle.records.specs.Limits.{below-top, buffer-limits, descriptor-limits}
+use Rattle.records.specs.Limits.{below-top, few-bytes, buffer-limits, descriptor-limits}
 use Rattle.records.specs.Modes.{started}
 use Rattle.records.specs.Writes.{write-length}
 use Rattle.request.specs.declared.kinds.Request.{Request}
 use Rattle.request.specs.declared.kinds.Request.the-variants as request
 use Rattle.request.specs.declared.kinds.Wanted.{Wanted}
 use Rattle.request.specs.declared.kinds.Wanted.the-variants as wanted
-use Rattle.request.specs.Admission.{admitted, begun, rows-begun, few-bytes, range-limits, send-begun, recv-begun, read-begun, direct-begun, direct-limits, write-begun, aligned-end, superset-length}
+use Rattle.request.specs.Admission.{admitted, begun, rows-begun, range-limits, send-begun, recv-begun, read-begun, direct-begun, direct-limits, write-begun, aligned-end, superset-length}
 use Rattle.rows.specs.Laws.{before, Stands, Sound, Inside}
-use Rattle.rows.specs.Vectors.{range, total, all-within, admitted-total, limited}
+use Rattle.rows.specs.Vectors.{range, total, all-within, inside-table, admitted-total, limited}
 use Rattle.runs.specs.Notions.{Tried, Tried.plainly, Tried.directly, bytes-wanted, source-bytes, sum, rows-of, first-attempt}
 use Rattle.runs.proofs.Links.{range-is, sum-is, within-is}
 use Rattle.runs.proofs.Placing.{Placed, Rows-placed, write-at, at-length}
@@ -56,19 +56,18 @@ inside-first : (rs : List ChunkRow) → Sound rs → Inside rs 0
 inside-first [] s = refl
 inside-first (r ∷ rs) s = s .0
 
-rows-begin : (table : List ChunkRow) (first count : ℕ) (a b : Bool) → (ltb count 2 || ltb (min (length table) 65536) (first + count)) ≡ a → all-within (range table first count) ≡ b →
-    Begun-well table (source.Rows first count) (rows-begun first count (cond a None (limited b (total (range table first count)))))
+rows-begin : (table : List ChunkRow) (first count : ℕ) (a b : Bool) → inside-table (length table) first count ≡ a → all-within (range table first count) ≡ b →
+    Begun-well table (source.Rows first count) (rows-begun first count (cond a (limited b (total (range table first count))) None))
 unfolding total
-rows-begin table first count true b e f = tt
-rows-begin table first count false false e f = tt
-rows-begin table first count false true e f =
-    cond-both (ltb 1099511627776 (total (range table first count))) None (Some (total (range table first count)))
+rows-begin table first count false b e f = tt
+rows-begin table first count true false e f = tt
+rows-begin table first count true true e f =
+    cond-both (few-bytes (total (range table first count))) (Some (total (range table first count))) None
     (λ o. Begun-well table (source.Rows first count) (rows-begun first count o))
-    (λ g. tt)
     (λ g.
-    let h = or-parts (ltb count 2) (ltb (min (length table) 65536) (first + count)) e in
-    let i = ltb-false _ _ (h .1) in
-    let j = ltb-false _ _ g in
+    let h = and-parts (leb 2 count) (leb (first + count) (min (length table) 65536)) e in
+    let i = leb-true _ _ (h .1) in
+    let j = leb-true _ _ g in
     let c : range table first count ≡ rows-of table first count = range-is table first count (omega arith) in
     let s = within-is (range table first count) f in (
       refl,
@@ -81,6 +80,7 @@ rows-begin table first count false true e f =
         small = j;
       },
     ))
+    (λ g. tt)
 
 begins-well : (table : List ChunkRow) (s : Source) → Begun-well table s (begun table s)
 begins-well table (source.Single place n) =
@@ -89,7 +89,7 @@ begins-well table (source.Single place n) =
     (λ e. let p = and-parts (below-top place n) (few-bytes n) e in (refl, (leb-true _ _ (p .0), leb-true _ _ (p .1))))
     (λ e. tt)
 begins-well table (source.Rows first count) =
-    rows-begin table first count (ltb count 2 || ltb (min (length table) 65536) (first + count)) (all-within (range table first count)) refl refl
+    rows-begin table first count (inside-table (length table) first count) (all-within (range table first count)) refl refl
 
 -- each kind
 

@@ -110,7 +110,7 @@ module _ (table : List ChunkRow) (q : Request) where
   fit-well x e (Some k) m = rw (m .0) (granted-fits x (fits table q k) k _ refl)
 
 -- what was submitted asked for no less than the request says
-wider : (y z : Bool) (a b : ℕ) (e : Heard) → z ≡ y → (y ≡ false → a ≤ b) → Fits-asked y a e → Fits-asked z b e
+wider : (y z : Bool) (a b : ℕ) (e : Heard) → z ≡ y → (y ≡ false → a ≡ b) → Fits-asked y a e → Fits-asked z b e
 wider true true a b e i j f = tt
 wider true false a b e i j f = let x : _≡_ {A = ℕ} 0 1 = cc in absurd (omega arith)
 wider false true a b e i j f = tt
@@ -144,7 +144,7 @@ Inv table w (Queued q) h = Going table w q (tried w h) (takes h) (synced h) × (
 Inv table w (InFlight q) h =
     Going table w q (tried w h) (takes h) (synced h)
     × (fsync-last h ≡ is-sync q)
-    × (is-sync q ≡ false → bytes-submitted table q ≤ asked-last h)
+    × (is-sync q ≡ false → bytes-submitted table q ≡ asked-last h)
 Inv table w (Ended q o) h = After table w (Ends o) q (tried w h) (takes h) (synced h)
 
 completing : (table : List ChunkRow) (w : Wanted) (v : Verdict) (q : Request) (x : Bool) (r : ℤ) (h : List Event) →
@@ -199,6 +199,12 @@ pub every-run : Every-run-is-lawful
 every-run table w p h run z = conclude p (kept run z)
   where
     conclude : (p : Standing) → Kept table w p h → Lawful table w p h
-    conclude (Queued q) k = record { within = going-within table w q _ _ _ (k .inv .0); each = k .each; bound = going-few table w q _ _ _ z (k .inv .0); ending = tt }
-    conclude (InFlight q) k = record { within = going-within table w q _ _ _ (k .inv .0); each = k .each; bound = going-few table w q _ _ _ z (k .inv .0); ending = tt }
-    conclude (Ended q o) k = record { within = k .inv .1; each = k .each; bound = k .inv .0; ending = k .inv .2 }
+    conclude (Queued q) k = record { within = going-within table w q _ _ _ (k .inv .0); each = k .each; bound = going-few table w q _ _ _ z (k .inv .0); asked = tt; ending = tt }
+    conclude (InFlight q) k = record {
+      within = going-within table w q _ _ _ (k .inv .0);
+      each = k .each;
+      bound = going-few table w q _ _ _ z (k .inv .0);
+      asked = λ e. k .inv .2 (sym (k .inv .1) ∙ e);
+      ending = tt;
+    }
+    conclude (Ended q o) k = record { within = k .inv .1; each = k .each; bound = k .inv .0; asked = tt; ending = k .inv .2 }

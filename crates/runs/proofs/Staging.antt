@@ -52,7 +52,7 @@ Built-well table w t tk sy (Err d) after = Unit {0}
 Built-well table w t tk sy (Ok s) after =
     Going table w (s .request) t tk sy
     × (is-fsync (s .submission) ≡ is-sync (s .request))
-    × (is-sync (s .request) ≡ false → bytes-submitted table (s .request) ≤ asks-for (s .submission) after)
+    × (is-sync (s .request) ≡ false → bytes-submitted table (s .request) ≡ asks-for (s .submission) after)
     × Begins (is-fsync (s .submission)) table w t (s .submission) after
 
 -- rows as iovecs
@@ -86,8 +86,13 @@ module _ (table : List ChunkRow) (first count n : ℕ) (c : Cursor) (list : List
       let a = cursor-laws .carries table first count c (p .sound) (p .stands) in
       first-iovecs ∙ a ∙ ap (λ k. take 1024 (left-after k (range table first count))) (p .before-is) ∙ ap (λ r. take 1024 (left-after n r)) (p .cut)
 
-  pub enough : min (iovec-bytes iovecs) 18446744073709551615 ≤ sizes (take needed after)
-  enough = let a = ap sizes first-iovecs in let b = sizes-is iovecs in omega (arith, a, b)
+  pub exactly : Rows-placed table first count n c → min (iovec-bytes iovecs) 18446744073709551615 ≡ sizes (take needed after)
+  exactly p =
+      let a = ap sizes first-iovecs in
+      let b = sizes-is iovecs in
+      let i = cursor-laws .within table first count c (p .sound) (p .stands) in
+      let z = p .small in
+      omega (arith, a, b, i, z)
 
 kept-less : (c : Cache) (h : Bool) → hint (kept-hint c h) ≤ hint c
 kept-less Enabled h = omega arith
@@ -106,7 +111,7 @@ send-rows true table d first count n tk c sy g list p l w = tt
 send-rows false table d first count n tk c sy g list p l w = (
   record { n = n; c = c; request-is = refl; tried-is = refl; placed = p; left = l; few = w },
   refl,
-  (λ e. enough table first count n c list),
+  (λ e. exactly table first count n c list p),
   (pieces table first count n c list p, l),
 )
 
@@ -154,7 +159,7 @@ module _ (table : List ChunkRow) (f : FileId) (offset : ℕ) (made : Cache) wher
       let l = a .left in let e = a .ends in (
         write-on (source.Rows first count) m n tk c cache (g .hints) a,
         sym i,
-        (λ z. let k = enough table first count n c list in omega (arith, j, k)),
+        (λ z. j ∙ exactly table first count n c list (a .placed)),
         (plus-is offset n (omega (arith, l, e)), pieces table first count n c list (a .placed), l),
       )
 

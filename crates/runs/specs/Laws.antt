@@ -17,6 +17,7 @@ use Rattle.records.specs.declared.write.Source.the-variants as source
 use Rattle.request.specs.declared.kinds.Request.{Request}
 use Rattle.request.specs.declared.kinds.Wanted.{Wanted}
 use Rattle.request.specs.declared.kinds.Wanted.the-variants as wanted
+use Rattle.request.specs.Progress.{bytes-submitted}
 use Rattle.rows.specs.Laws.{left-after}
 use Rattle.runs.specs.Notions.{Event, Event.submitted, Event.completed, Heard, Heard.retry, Heard.failed, Heard.moved, Tried, Tried.directly, Tried.plainly, bytes-wanted, source-bytes, rows-of, lead, pages, heard, takes, tried, synced, is-fsync, fsync-last, asked-last, cancelled-last}
 use Rattle.runs.specs.declared.transfer.Standing.{Standing}
@@ -141,10 +142,17 @@ Ends-rightly table w h (Queued q) = Unit {0}
 Ends-rightly table w h (InFlight q) = Unit {0}
 Ends-rightly table w h (Ended q o) = Means table w (tried w h) (synced h) o
 
+-- a request in flight says of itself (`bytes_submitted`) what its submission asks for
+abbrev pub Asks-as-told : List ChunkRow → List Event → Standing → Type 0
+Asks-as-told table h (Queued q) = Unit {0}
+Asks-as-told table h (InFlight q) = fsync-last h ≡ false → bytes-submitted table q ≡ asked-last h
+Asks-as-told table h (Ended q o) = Unit {0}
+
 pub record Lawful (table : List ChunkRow) (w : Wanted) (p : Standing) (h : List Event) : Type 0 where
   pub within : Within table w (tried w h)
   pub each : (later earlier : List Event) (e : Event) → h ≡ later ++ (e ∷ earlier) → Good table w e earlier
   pub bound : takes h ≤ most-completions table w
+  pub asked : Asks-as-told table h p
   pub ending : Ends-rightly table w h p
 
 abbrev pub Every-run-is-lawful : Type 0

@@ -9,8 +9,8 @@ use Rattle.rows.proofs.walk.advance.Needs as need
 pub returns-in-rest : need.returns-in-rest
 returns-in-rest c = search (needs, along-end)
 
-pub returns-then-left-rest : need.returns-then-left-rest
-returns-then-left-rest c =
+pub returns-in-Some-stop-in-row : need.returns-in-Some-stop-in-row
+returns-in-Some-stop-in-row c =
     let e : nth (range (c .args .table .now) (c .args .first) (c .args .count)) (c .loop-row .row) ≡ Some (c .in-Some .chunk) = search needs in
     search (needs, along-at (range (c .args .table .now) (c .args .first) (c .args .count)) (c .loop-row .row) (c .loop-row .within) (c .loop-row .left) (c .in-Some .chunk) e)
 

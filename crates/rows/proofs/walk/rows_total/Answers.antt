@@ -20,8 +20,8 @@ loop-i-again c =
     let e : nth (range (c .args .table .now) (c .args .first) (c .args .count)) (c .loop-i .i) ≡ Some (c .in-Some .row) = search needs in
     search (needs, good-at (range (c .args .table .now) (c .args .first) (c .args .count)) (c .loop-i .i) (c .in-Some .row) e, total-at (range (c .args .table .now) (c .args .first) (c .args .count)) (c .loop-i .i) (c .in-Some .row) e)
 
-pub returns-then-sum-gt1099511627776 : need.returns-then-sum-gt1099511627776
-returns-then-sum-gt1099511627776 c = search (needs, good-end, total-end, range-length)
+pub returns-then-not-is-few-bytes : need.returns-then-not-is-few-bytes
+returns-then-not-is-few-bytes c = search (needs, good-end, total-end, range-length)
 
 pub returns : need.returns
 returns c = search (needs, good-end, total-end, range-length)
