@@ -47,7 +47,7 @@ pub(crate) impl fmt::Display for Told<Outcome> as ToldOutcome {
             Outcome::RecvFailed => f.write_str("recv-failed"),
             Outcome::ReadFailed => f.write_str("read-failed"),
             Outcome::WriteFailed => f.write_str("write-failed"),
-            Outcome::BlobInsufficientLength => f.write_str("insufficient-length"),
+            Outcome::BlobInsufficientLength => f.write_str("short-blob"),
             Outcome::Closed => f.write_str("closed"),
             Outcome::Io { code } => write!(f, "io {code}"),
             Outcome::LedgerSpent => f.write_str("ledger-spent"),
