@@ -1,7 +1,8 @@
 //! Which requests are taken, and in which state they begin.
 ghost use mathlib.Core.Path.{_≡_};
 ghost use Prim.Native.Nat.{_≤_};
-ghost use Rattle.request.specs.Admission.{begun, range-limits, superset-start, superset-length, direct-begun, admitted, recv-begun, read-begun, write-begun};
+ghost use Rattle.records.specs.Limits.{descriptor-limits};
+ghost use Rattle.request.specs.Admission.{begun, range-limits, superset-start, superset-length, direct-begun, admitted, send-begun, recv-begun, read-begun, write-begun};
 use crate::kinds::Direct;
 use crate::kinds::ReadAtRequest;
 use crate::kinds::RecvRequest;
@@ -82,6 +83,22 @@ pub(crate) fn superset_length(offset: u64, length: u64) -> u64
     ensures { λ r. ⌜ r ≡ superset-length offset length ⌝ }
 {
     (offset % BLOB_PAGE_SIZE + length + BLOB_PAGE_SIZE - 1) / BLOB_PAGE_SIZE * BLOB_PAGE_SIZE
+}
+
+pub(crate) fn admit_send(
+    table: &[ChunkRow],
+    descriptor: u32,
+    source: Source,
+) -> Result<Request, Denial>
+    ensures { λ r. ⌜ r ≡ send-begun descriptor (descriptor-limits descriptor) (begun (now (table .entry)) source) ⌝ }
+{
+    if !is_descriptor(descriptor) {
+        return Err(Denial::LimitBroken);
+    }
+    let Some(write) = begin_write(table, source) else {
+        return Err(Denial::LimitBroken);
+    };
+    Ok(Request::Send(SendRequest { descriptor, write }))
 }
 
 pub(crate) fn admit_recv(
@@ -203,15 +220,7 @@ impl Wanted {
         ensures { λ r. ⌜ r ≡ admitted (now (table .entry)) self ⌝ }
     {
         match self {
-            Wanted::Send { descriptor, source } => {
-                if !is_descriptor(descriptor) {
-                    return Err(Denial::LimitBroken);
-                }
-                let Some(write) = begin_write(table, source) else {
-                    return Err(Denial::LimitBroken);
-                };
-                Ok(Request::Send(SendRequest { descriptor, write }))
-            }
+            Wanted::Send { descriptor, source } => admit_send(table, descriptor, source),
             Wanted::Recv {
                 descriptor,
                 buffer,

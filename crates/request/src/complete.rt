@@ -33,54 +33,59 @@ pub(crate) fn count_if_ok(received: u64, outcome: Outcome) -> Option<u64>
 }
 
 impl Request {
+    // What the observer is told.
+    pub(crate) fn output(self, outcome: Outcome) -> RequestOutput
+        ensures { λ r. ⌜ r ≡ output-of self outcome ⌝ }
+    {
+        match self {
+            Request::Send(_) => RequestOutput::Send { outcome },
+            Request::Recv(q) => RequestOutput::Recv {
+                outcome,
+                buffer: q.buffer,
+                count: count_if_ok(q.received, outcome),
+            },
+            Request::ReadAt(q) => RequestOutput::ReadAt {
+                outcome,
+                buffer: show(q.buffer, outcome),
+            },
+            Request::WriteAt(_) => RequestOutput::WriteAt { outcome },
+            Request::Sync(_) => RequestOutput::Sync { outcome },
+        }
+    }
+
+    // What it held, a write with its final cursor.
+    pub(crate) fn resources(self) -> RetiredResources
+        ensures { λ r. ⌜ r ≡ resources-of self ⌝ }
+    {
+        match self {
+            Request::Send(q) => RetiredResources::Send {
+                descriptor: q.descriptor,
+                write: q.write,
+            },
+            Request::Recv(q) => RetiredResources::Socket {
+                descriptor: q.descriptor,
+            },
+            Request::ReadAt(q) => RetiredResources::File {
+                file: q.file,
+                write: None,
+            },
+            Request::WriteAt(q) => RetiredResources::File {
+                file: q.file,
+                write: Some(q.write),
+            },
+            Request::Sync(q) => RetiredResources::File {
+                file: q.file,
+                write: None,
+            },
+        }
+    }
+
     /// The output for the observer, and what the request held.
     pub fn complete(self, outcome: Outcome) -> (RequestOutput, RetiredResources)
         ensures output { λ r. ⌜ r .0 ≡ output-of self outcome ⌝ }
         ensures resources { λ r. ⌜ r .1 ≡ resources-of self ⌝ }
     {
-        match self {
-            Request::Send(q) => (
-                RequestOutput::Send { outcome },
-                RetiredResources::Send {
-                    descriptor: q.descriptor,
-                    write: q.write,
-                },
-            ),
-            Request::Recv(q) => (
-                RequestOutput::Recv {
-                    outcome,
-                    buffer: q.buffer,
-                    count: count_if_ok(q.received, outcome),
-                },
-                RetiredResources::Socket {
-                    descriptor: q.descriptor,
-                },
-            ),
-            Request::ReadAt(q) => (
-                RequestOutput::ReadAt {
-                    outcome,
-                    buffer: show(q.buffer, outcome),
-                },
-                RetiredResources::File {
-                    file: q.file,
-                    write: None,
-                },
-            ),
-            Request::WriteAt(q) => (
-                RequestOutput::WriteAt { outcome },
-                RetiredResources::File {
-                    file: q.file,
-                    write: Some(q.write),
-                },
-            ),
-            Request::Sync(q) => (
-                RequestOutput::Sync { outcome },
-                RetiredResources::File {
-                    file: q.file,
-                    write: None,
-                },
-            ),
-        }
+        (self.output(outcome), self.resources())
     }
 
     /// The file whose permit this request is due.

@@ -103,8 +103,8 @@ abbrev pub read-with : ReadAtRequest → Cache → ReadAtRequest
 read-with q c = record { file = q .file; offset = q .offset; read = q .read; buffer = q .buffer; cache = c; direct = q .direct }
 
 -- IORING_OP_READ is 22; a direct read asks for whole pages, 0x7ffff000 bytes at most, of its own descriptor
-abbrev pub read-built-in : Option Direct → ReadAtRequest → Setting → Staged
-read-built-in (Some d) q s = record {
+abbrev pub direct-built : ReadAtRequest → Direct → Setting → Staged
+direct-built q d s = record {
   request = request.ReadAt q;
   submission = record {
     opcode = 22;
@@ -116,7 +116,9 @@ read-built-in (Some d) q s = record {
     token = s .token;
   };
 }
-read-built-in None q s = record {
+
+abbrev pub buffered-built : ReadAtRequest → Setting → Staged
+buffered-built q s = record {
   request = request.ReadAt (read-with q (kept-hint (q .cache) (s .hints)));
   submission = record {
     opcode = 22;
@@ -128,6 +130,10 @@ read-built-in None q s = record {
     token = s .token;
   };
 }
+
+abbrev pub read-built-in : Option Direct → ReadAtRequest → Setting → Staged
+read-built-in (Some d) q s = direct-built q d s
+read-built-in None q s = buffered-built q s
 
 abbrev pub read-built : ReadAtRequest → Setting → Staged
 read-built q s = read-built-in (q .direct) q s

@@ -1,6 +1,6 @@
 //! Building a request's next submission.
 ghost use mathlib.Core.Path.{_≡_};
-ghost use Rattle.sqe.specs.Building.{kept-hint, hint-flag, sync-flag, part-of, part-list, datasync, send-built, recv-built, read-built, bytes-built, write-built, write-list, built, built-list};
+ghost use Rattle.sqe.specs.Building.{kept-hint, hint-flag, sync-flag, part-of, part-list, datasync, send-built, recv-built, direct-built, buffered-built, read-built, bytes-built, write-built, write-list, built, built-list};
 use records::Cache;
 use records::ChunkRow;
 use records::Denial;
@@ -8,6 +8,7 @@ use records::Iovec;
 use records::Submission;
 use records::WriteAtState;
 use records::WriteBuffers;
+use request::Direct;
 use request::ReadAtRequest;
 use request::RecvRequest;
 use request::Request;
@@ -174,48 +175,51 @@ pub(crate) fn build_recv(q: RecvRequest, setting: Setting) -> Staged
 }
 
 // A direct read goes to its own descriptor, in whole pages and without flags.
+pub(crate) fn build_direct(q: ReadAtRequest, direct: Direct, setting: Setting) -> Staged
+    ensures { λ r. ⌜ r ≡ direct-built q direct setting ⌝ }
+{
+    let left = q.buffer.length.saturating_sub(q.read);
+    let submission = Submission {
+        opcode: READ,
+        descriptor: direct.descriptor,
+        offset: q.offset.saturating_add(q.read),
+        place: q.buffer.place.saturating_add(q.read),
+        length: left.min(2147479552) as u32,
+        flags: 0,
+        token: setting.token,
+    };
+    Staged {
+        request: Request::ReadAt(q),
+        submission,
+    }
+}
+
+pub(crate) fn build_buffered(q: ReadAtRequest, setting: Setting) -> Staged
+    ensures { λ r. ⌜ r ≡ buffered-built q setting ⌝ }
+{
+    let cache = keep_hint(q.cache, setting.hints);
+    let left = q.buffer.length.saturating_sub(q.read);
+    let submission = Submission {
+        opcode: READ,
+        descriptor: setting.descriptor,
+        offset: q.offset.saturating_add(q.read),
+        place: q.buffer.place.saturating_add(q.read),
+        length: left.min(4294967295) as u32,
+        flags: cache_flag(cache),
+        token: setting.token,
+    };
+    Staged {
+        request: Request::ReadAt(ReadAtRequest { cache, ..q }),
+        submission,
+    }
+}
+
 pub(crate) fn build_read(q: ReadAtRequest, setting: Setting) -> Staged
     ensures { λ r. ⌜ r ≡ read-built q setting ⌝ }
 {
-    let left = q.buffer.length.saturating_sub(q.read);
-    let place = q.buffer.place.saturating_add(q.read);
-    let offset = q.offset.saturating_add(q.read);
-    let token = setting.token;
     match q.direct {
-        Some(direct) => {
-            let length = left.min(2147479552) as u32;
-            let submission = Submission {
-                opcode: READ,
-                descriptor: direct.descriptor,
-                offset,
-                place,
-                length,
-                flags: 0,
-                token,
-            };
-            Staged {
-                request: Request::ReadAt(q),
-                submission,
-            }
-        }
-        None => {
-            let cache = keep_hint(q.cache, setting.hints);
-            let length = left.min(4294967295) as u32;
-            let flags = cache_flag(cache);
-            let submission = Submission {
-                opcode: READ,
-                descriptor: setting.descriptor,
-                offset,
-                place,
-                length,
-                flags,
-                token,
-            };
-            Staged {
-                request: Request::ReadAt(ReadAtRequest { cache, ..q }),
-                submission,
-            }
-        }
+        Some(direct) => build_direct(q, direct, setting),
+        None => build_buffered(q, setting),
     }
 }
 
