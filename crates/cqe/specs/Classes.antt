@@ -1,4 +1,5 @@
--- The result of a completion, as io_uring_enter(2) has it: what the system call would have answered, an error negated.
+-- The result of a completion: io_uring_enter(2) has it as a signed 32-bit result code. By the kernel's convention it is
+-- what the system call would have answered, an error negated.
 use mathlib.Core.Bool.{Bool, true, false, cond, not, _&&_, _||_}
 use Prim.Native.Nat.{ℕ, _+_}
 use lib.Dec.{eqb, ltb}
@@ -16,7 +17,7 @@ error-class code cancelled = cond (eqb code 11 || eqb code 4) Retry (cond (eqb c
 abbrev pub count-class : ℕ → (empty : Bool) → CqeResult
 count-class n empty = cond (eqb n 0 && not empty) Zero (Count n)
 
--- errors are -1 to -4,095 (negsuc k is -(k + 1)); below that nothing fits
+-- errors are -1 to -4,095, by the kernel's convention and in none of the pages (negsuc k is -(k + 1)); below that nothing fits
 abbrev pub classified : ℤ → (cancelled empty : Bool) → Option CqeResult
 classified (pos n) cancelled empty = Some (count-class n empty)
 classified (negsuc k) cancelled empty = cond (ltb k 4095) (Some (error-class (k + 1) cancelled)) None

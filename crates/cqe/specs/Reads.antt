@@ -71,7 +71,7 @@ direct-step q d (Count n) = direct-count q d n
 abbrev pub buffered-count : ReadAtRequest → ℕ → Step
 buffered-count q n = stepped (ReadAt (read-more q n)) (cond (ltb (plus (q .read) n) (q .buffer .length)) GoesOn (Ends Ok))
 
--- preadv2(2): EOPNOTSUPP, 95, is the answer to a flag that is not supported
+-- preadv2(2): EOPNOTSUPP, 95, says that an unknown flag was specified; the rule blames the hint, once
 abbrev pub buffered-error : ReadAtRequest → ℕ → Step
 buffered-error q code = cond (eqb code 95 && hinting (q .cache)) (unhinted (ReadAt (without-hint q))) (stepped (ReadAt q) (Ends ReadFailed))
 

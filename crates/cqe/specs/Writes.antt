@@ -47,7 +47,7 @@ send-step table q Zero = stepped (Send q) (Ends SendFailed)
 send-step table q (Count n) = stepped (Send (send-with q (write-moved table (q .write) n)))
     (cond (ltb 0 (write-left (write-moved table (q .write) n))) GoesOn (Ends Ok))
 
--- fsync(2): an error says that data may be lost; whatever else comes is success
+-- fsync(2): zero on success, else an error; by the rule a positive result, which it does not give, is success too
 abbrev pub sync-verdict : CqeResult → Verdict
 sync-verdict Retry = GoesOn
 sync-verdict Cancelled = Ends (Io 125)
@@ -73,14 +73,14 @@ write-count table q n =
     cond (ltb 0 (write-left (write-moved table (q .write) n))) (stepped (WriteAt (write-with q (write-moved table (q .write) n) (q .state))) GoesOn)
     (write-whole (q .state) q (write-moved table (q .write) n))
 
--- pwritev2(2): with RWF_DSYNC an error is one of the data's durability, and its code is told
+-- pwritev2(2): RWF_DSYNC is O_DSYNC for one write, so by the rule its error may be one of durability, and the code is told
 abbrev pub write-error : WriteAtState → ℕ → Outcome
 write-error WritingSync code = Io code
 write-error Writing code = WriteFailed
 write-error WritingBeforeSync code = WriteFailed
 write-error Syncing code = Io code
 
--- pwritev2(2): EOPNOTSUPP, 95, is the answer to a flag that is not supported
+-- pwritev2(2): EOPNOTSUPP, 95, says that an unknown flag was specified; the rule blames the hint, once
 abbrev pub bytes-error : WriteAtRequest → ℕ → Step
 bytes-error q code = cond (eqb code 95 && hinting (q .cache)) (unhinted (WriteAt (without-hint q))) (stepped (WriteAt q) (Ends (write-error (q .state) code)))
 

@@ -42,7 +42,7 @@ begun table (source.Rows first count) = rows-begun first count (admitted-total t
 abbrev pub range-limits : (offset bytes : ℕ) → Bool
 range-limits offset n = few-bytes n && leb (offset + n) 9223372036854775807
 
--- open(2), O_DIRECT: offset, length and address are multiples of the block size; 4,096 is one of every block size in use.
+-- open(2), O_DIRECT: it may restrict the alignment of length, address and file offset, and how varies; the rule is 4,096 for all three.
 -- The superset of a range is the whole pages that hold it.
 abbrev pub skip : ℕ → ℕ
 skip offset = offset % 4096

@@ -1,4 +1,5 @@
 -- The next submission of a request: the fields of io_uring_enter(2)'s submission entry, by opcode.
+-- Opcodes and flags have the numbers of the kernel's headers; the pages have their names alone.
 use mathlib.Core.Bool.{Bool, true, false}
 use mathlib.Core.List.{List}
 use Prim.Native.Nat.{ℕ, _+_, _-_, min}
