@@ -33,7 +33,7 @@ sound-drop v zero s = s
 sound-drop [] (suc c) s = tt
 sound-drop (x ∷ xs) (suc c) s = sound-drop xs c (s .2)
 
-inside-none : (q : List ChunkRow) → Sound q → Inside q 0
+pub inside-none : (q : List ChunkRow) → Sound q → Inside q 0
 inside-none [] s = refl
 inside-none (x ∷ xs) s = s .0
 

@@ -33,7 +33,7 @@ use Rattle.request.specs.declared.kinds.Request.the-variants as request
 use Rattle.request.specs.declared.kinds.Wanted.{Wanted}
 use Rattle.request.specs.declared.kinds.Wanted.the-variants as wanted
 use Rattle.request.specs.Admission.{admitted, begun, rows-begun, range-limits, send-begun, recv-begun, read-begun, direct-begun, direct-limits, write-begun, aligned-end, superset-length}
-use Rattle.rows.specs.Laws.{before, Stands, Sound, Inside}
+use Rattle.rows.proofs.CursorLaws.{inside-none}
 use Rattle.rows.specs.Vectors.{range, total, all-within, inside-table, admitted-total, limited}
 use Rattle.runs.specs.Notions.{Tried, Tried.plainly, Tried.directly, bytes-wanted, source-bytes, sum, rows-of, first-attempt}
 use Rattle.runs.proofs.Links.{range-is, sum-is, within-is}
@@ -51,10 +51,6 @@ start = record { row = 0; within = 0 }
 abbrev Begun-well : List ChunkRow → Source → Option WriteBuffers → Type 0
 Begun-well table s None = Unit {0}
 Begun-well table s (Some b) = (b ≡ write-at table s 0 start) × Placed table s 0 start
-
-inside-first : (rs : List ChunkRow) → Sound rs → Inside rs 0
-inside-first [] s = refl
-inside-first (r ∷ rs) s = s .0
 
 rows-begin : (table : List ChunkRow) (first count : ℕ) (a b : Bool) → inside-table (length table) first count ≡ a → all-within (range table first count) ≡ b →
     Begun-well table (source.Rows first count) (rows-begun first count (cond a (limited b (total (range table first count))) None))
@@ -75,7 +71,7 @@ rows-begin table first count true true e f =
         sound = s;
         cut = c;
         total-is = sum-is (range table first count) ∙ ap sum c;
-        stands = inside-first (range table first count) s;
+        stands = inside-none (range table first count) s;
         before-is = refl;
         small = j;
       },

@@ -45,6 +45,7 @@ use Rattle.runs.specs.Laws.{Begins}
 use Rattle.runs.proofs.Links.{plus-is, sizes-is}
 use Rattle.runs.proofs.Placing.{Placed, Rows-placed, write-at}
 use Rattle.runs.proofs.Going.{hint, Sending, Writing, Owing, Going}
+use Rattle.runs.proofs.ReactingWrites.{Write-facts}
 
 -- what a built submission is, for the request in flight
 abbrev pub Built-well : List ChunkRow → Wanted → Tried → ℕ → Bool → Result Staged Denial → List Iovec → Type 0
@@ -134,20 +135,14 @@ module _ (table : List ChunkRow) (f : FileId) (offset : ℕ) (made : Cache) wher
   abbrev writing : Source → WriteMode → ℕ → Cursor → Cache → WriteAtRequest
   writing s m n c cache = record { file = f; offset = offset; write = write-at table s n c; state = started m; cache = cache }
 
-  record Facts (s : Source) (n tk : ℕ) (c : Cursor) (cache : Cache) : Type 0 where
-    pub placed : Placed table s n c
-    pub left : n < source-bytes table s
-    pub ends : offset + source-bytes table s ≤ 9223372036854775807
-    pub few : tk + hint cache ≤ n + 1
-
-  write-on : (s : Source) (m : WriteMode) (n tk : ℕ) (c : Cursor) (cache : Cache) (h : Bool) → Facts s n tk c cache →
+  write-on : (s : Source) (m : WriteMode) (n tk : ℕ) (c : Cursor) (cache : Cache) (h : Bool) → Write-facts table f offset s made n tk c cache →
       Going table (wanted.WriteAt f offset s m made) (request.WriteAt (writing s m n c (kept-hint cache h))) (plainly n) tk false
   write-on s m n tk c cache h a =
       let k = kept-less cache h in let w = a .few in
       inl (record { n = n; c = c; cache = kept-hint cache h; request-is = refl; tried-is = refl; placed = a .placed; left = a .left; ends = a .ends; few = omega (arith, k, w) }, refl)
 
   write-rows : (b : Bool) (first count : ℕ) (m : WriteMode) (n tk : ℕ) (c : Cursor) (cache : Cache) (g : Setting) (list : List Iovec) →
-      Facts (source.Rows first count) n tk c cache →
+      Write-facts table f offset (source.Rows first count) made n tk c cache →
       (is-sync (request.WriteAt (writing (source.Rows first count) m n c (kept-hint cache (g .hints)))) ≡ false) →
       (bytes-submitted table (request.WriteAt (writing (source.Rows first count) m n c (kept-hint cache (g .hints)))) ≡ min (iovec-bytes (iovecs table first count n c list)) 18446744073709551615) →
       Built-well table (wanted.WriteAt f offset (source.Rows first count) m made) (plainly n) tk false
@@ -164,7 +159,7 @@ module _ (table : List ChunkRow) (f : FileId) (offset : ℕ) (made : Cache) wher
       )
 
   write-single : (place k : ℕ) (m : WriteMode) (n tk : ℕ) (c : Cursor) (cache : Cache) (g : Setting) (list : List Iovec) →
-      Facts (source.Single place k) n tk c cache →
+      Write-facts table f offset (source.Single place k) made n tk c cache →
       (is-sync (request.WriteAt (writing (source.Single place k) m n c (kept-hint cache (g .hints)))) ≡ false) →
       (bytes-submitted table (request.WriteAt (writing (source.Single place k) m n c (kept-hint cache (g .hints)))) ≡ min (k - n) 4294967295) →
       Built-well table (wanted.WriteAt f offset (source.Single place k) m made) (plainly n) tk false
@@ -178,7 +173,7 @@ module _ (table : List ChunkRow) (f : FileId) (offset : ℕ) (made : Cache) wher
         (plus-is offset n (omega (arith, l, e)), plus-is place n (omega (arith, l, p)), l),
       )
 
-  write-stages : (s : Source) (m : WriteMode) (n tk : ℕ) (c : Cursor) (cache : Cache) (g : Setting) (list : List Iovec) → Facts s n tk c cache →
+  write-stages : (s : Source) (m : WriteMode) (n tk : ℕ) (c : Cursor) (cache : Cache) (g : Setting) (list : List Iovec) → Write-facts table f offset s made n tk c cache →
       Built-well table (wanted.WriteAt f offset s m made) (plainly n) tk false (built table (request.WriteAt (writing s m n c cache)) g list) (built-list table (request.WriteAt (writing s m n c cache)) list)
   write-stages (source.Single place k) mode.Writing n tk c cache g list a = write-single place k mode.Writing n tk c cache g list a refl refl
   write-stages (source.Single place k) mode.WritingSync n tk c cache g list a = write-single place k mode.WritingSync n tk c cache g list a refl refl
