@@ -1,5 +1,5 @@
 -- The encodings can be undone.
-use Rattle.std.proofs.Common.{◌≡◌, ℕ, ◌+◌, ◌*◌, ◌/◌, ◌%◌, ◌<◌, List, [], ◌∷◌, ◌++◌, get_or, take, drop, sym, refl, ap, ◌∙◌, arith}
+use Rattle.std.proofs.Common.{◌≡◌, ℕ, ◌+◌, ◌*◌, ◌/◌, ◌%◌, ◌<◌, List, [], ◌∷◌, get_or, take, drop, sym, ap, ◌∙◌, arith}
 use Rattle.records.specs.Bytes.{four, eight, laid_out}
 use Rattle.records.specs.Encodings.{Fits, Encodings}
 use Rattle.records.specs.Tokens.{token, token_index, token_generation}

@@ -1,5 +1,5 @@
 -- What the encodings keep: the bytes of a submission, and its token.
-use Rattle.std.specs.Prelude.{◌≡◌, ℕ, ◌%◌, ◌<◌}
+use Rattle.std.specs.Prelude.{◌≡◌, ◌%◌, ◌<◌}
 use Rattle.records.specs.declared.id.WaiterId.{WaiterId}
 use Rattle.records.specs.declared.submission.Submission.{Submission}
 use Rattle.records.specs.Bytes.{laid_out}

@@ -1,4 +1,6 @@
 //! The plain records of the ring, with their limits and their numbers.
+#![tactic(auto)]
+
 pub mod buffer;
 pub mod denial;
 pub mod id;

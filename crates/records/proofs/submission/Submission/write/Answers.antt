@@ -3,5 +3,5 @@ use Rattle.records.proofs.submission.Submission.write.Goals as goal
 
 pub returns : goal.returns
 returns c =
-    laid c.args.self _ _ _ _ _ _ _ c.to-le-bytes-d.ensures c.to-le-bytes-o.ensures c.to-le-bytes-p.ensures
-    c.to-le-bytes-l.ensures c.to-le-bytes-f.ensures c.to-le-bytes-t.ensures c.lay.ensures
+    laid c.args.self _ _ _ _ _ _ _ c.to_le_bytes-d.ensures c.to_le_bytes-o.ensures c.to_le_bytes-p.ensures
+    c.to_le_bytes-l.ensures c.to_le_bytes-f.ensures c.to_le_bytes-t.ensures c.lay.ensures
