@@ -1,10 +1,9 @@
 -- A cursor and the bytes before it.
-use Rattle.std.proofs.Common.{◌≡◌, ℕ, zero, suc, ◌+◌, ◌-◌, ◌<◌, ◌≤◌, min, Bool, true, false, cond, ltb, List, [], ◌∷◌, ◌++◌, length, take, drop, sym, refl, ap, ◌∙◌, arith}
+use Rattle.std.proofs.Common.{◌≡◌, ℕ, zero, suc, ◌+◌, ◌-◌, ◌<◌, ◌≤◌, min, true, false, ltb, List, [], ◌∷◌, take, drop, sym, refl, ap, ◌∙◌, arith}
 use Rattle.std.proofs.lemmas.Bool.{cond_both, ltb-true, ltb-false, lt-ltb, le-ltb}
 use Rattle.records.specs.declared.buffer.ChunkRow.{ChunkRow}
-use Rattle.records.specs.declared.buffer.Iovec.{Iovec}
 use Rattle.records.specs.declared.write.Cursor.{Cursor}
-use Rattle.rows.specs.Vectors.{range, carried, total, iovec_of, iovecs_of, iovec_bytes, along, advanced}
+use Rattle.rows.specs.Vectors.{range, carried, total, iovec_of, iovecs_of, iovec_bytes, along}
 use Rattle.rows.specs.Laws.{Sound, before, Inside, Stands, left_after, CursorLaws}
 use Rattle.rows.proofs.Lists.{drop_step}
 

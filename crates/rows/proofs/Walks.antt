@@ -1,12 +1,11 @@
 -- A step and the end of each walk over rows.
-use Rattle.std.proofs.Common.{◌≡◌, ℕ, zero, suc, ◌+◌, ◌-◌, ◌<◌, ◌≤◌, min, Bool, true, false, cond, ◌&&◌, ltb, List, [], ◌∷◌, ◌++◌, length, take, drop, set, Some, None, sym, refl, ap, ◌∙◌, arith}
+use Rattle.std.proofs.Common.{◌≡◌, ℕ, suc, ◌+◌, ◌-◌, ◌<◌, ◌≤◌, min, true, cond, ◌&&◌, ltb, List, [], ◌∷◌, ◌++◌, length, take, drop, set, Some, None, refl, ap, ◌∙◌, arith}
 use native.Mathlib.Numerals.{unary_clauses}
 use Rattle.std.proofs.lemmas.List.{drop_all, length-take, length-drop}
 use Rattle.std.specs.List.{slice_get}
 use Rattle.records.specs.Limits.{row_limits}
 use Rattle.records.specs.declared.buffer.ChunkRow.{ChunkRow}
 use Rattle.records.specs.declared.buffer.Iovec.{Iovec}
-use Rattle.records.specs.declared.write.Cursor.{Cursor}
 use Rattle.rows.specs.Vectors.{range, carried, all_within, total, iovec_of, iovecs_of, iovec_bytes, along}
 use Rattle.rows.proofs.Lists.{nth_drop, nth_take, nth_take_past, drop_some, drop_none}
 

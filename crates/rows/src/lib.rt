@@ -1,5 +1,6 @@
 //! Vectored writes: rows of the chunk table, a cursor over them, and the iovecs that a submission carries.
 #![tactic(auto)]
+
 pub mod laws;
 pub mod places;
 pub mod walk;

@@ -3,8 +3,8 @@ use Rattle.rows.proofs.Lists.{nth_none}
 use Rattle.rows.proofs.Walks.{fill_at, fill_end, fill_whole}
 use Rattle.rows.proofs.walk.fill_iovecs.Goals as goal
 
-pub returns-in-default : goal.returns-in-default
-returns-in-default c = search (rules, nth_none)
+pub returns-in_default : goal.returns-in_default
+returns-in_default c = search (rules, nth_none)
 
 pub loop-i-preserved : goal.loop-i-preserved
 loop-i-preserved c = search (rules, fill_at)
