@@ -1,6 +1,6 @@
 -- The result of a completion: io_uring_enter(2) has it as a signed 32-bit result code. By the kernel's convention it is
 -- what the system call would have answered, an error negated.
-use Rattle.std.specs.Prelude.{ℕ, ◌+◌, Bool, true, false, cond, not, ◌&&◌, ◌||◌, ℤ, pos, negsuc, Some, None, Option, ◌==◌, nat_lt}
+use Rattle.std.specs.Prelude.{ℕ, ◌+◌, Bool, cond, not, ◌&&◌, ◌||◌, ℤ, pos, negsuc, Some, None, Option, ◌==◌, nat_lt}
 use Rattle.cqe.specs.declared.result.CqeResult.{CqeResult}
 use Rattle.cqe.specs.declared.result.CqeResult.TheVariants.{Retry, Cancelled, Error, Zero, Count}
 

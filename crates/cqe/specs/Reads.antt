@@ -1,9 +1,7 @@
 -- Completions of receives and reads, by the state of the request and the result together.
-use Rattle.std.specs.Prelude.{ℕ, ◌-◌, ◌%◌, Bool, true, false, cond, ◌&&◌, Some, None, Option, ◌==◌, nat_le, nat_lt}
+use Rattle.std.specs.Prelude.{ℕ, ◌-◌, ◌%◌, cond, ◌&&◌, Some, None, Option, ◌==◌, nat_le, nat_lt}
 use Rattle.records.specs.declared.buffer.Buffer.{Buffer}
-use Rattle.records.specs.declared.mode.Cache.{Cache}
 use Rattle.records.specs.declared.mode.Cache.TheVariants.{Enabled, Disabled}
-use Rattle.records.specs.declared.outcome.Outcome.{Outcome}
 use Rattle.records.specs.declared.outcome.Outcome.TheVariants.{Ok, Timeout, RecvFailed, ReadFailed, BlobInsufficientLength}
 use Rattle.records.specs.Modes.{hinting}
 use Rattle.records.specs.Sums.{plus}
@@ -14,7 +12,6 @@ use Rattle.request.specs.declared.kinds.Request.TheVariants.{Recv, ReadAt}
 use Rattle.cqe.specs.declared.result.CqeResult.{CqeResult}
 use Rattle.cqe.specs.declared.result.CqeResult.TheVariants.{Retry, Cancelled, Error, Zero, Count}
 use Rattle.cqe.specs.declared.step.Step.{Step}
-use Rattle.cqe.specs.declared.step.Verdict.{Verdict}
 use Rattle.cqe.specs.declared.step.Verdict.TheVariants.{GoesOn, Ends}
 use Rattle.cqe.specs.Steps.{stepped, unhinted}
 

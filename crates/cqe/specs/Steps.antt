@@ -1,6 +1,5 @@
 -- A request after a completion.
 use Rattle.std.specs.Prelude.{Bool, true, false}
-use Rattle.records.specs.declared.outcome.Outcome.{Outcome}
 use Rattle.records.specs.declared.outcome.Outcome.TheVariants.{Timeout}
 use Rattle.request.specs.declared.kinds.Request.{Request}
 use Rattle.cqe.specs.declared.step.Step.{Step}

@@ -1,5 +1,5 @@
 -- Completions of sends, writes and syncs, by the state of the request and the result together.
-use Rattle.std.specs.Prelude.{ℕ, Bool, true, false, cond, ◌&&◌, List, ◌==◌, nat_lt}
+use Rattle.std.specs.Prelude.{ℕ, cond, ◌&&◌, List, ◌==◌, nat_lt}
 use Rattle.records.specs.declared.buffer.ChunkRow.{ChunkRow}
 use Rattle.records.specs.declared.mode.Cache.TheVariants.{Enabled}
 use Rattle.records.specs.declared.mode.WriteAtState.{WriteAtState}

@@ -1,5 +1,6 @@
 //! Reading a completion: what the kernel's result makes of a request.
 #![tactic(auto)]
+
 pub mod cqe;
 pub mod reads;
 pub mod result;

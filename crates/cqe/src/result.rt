@@ -29,7 +29,7 @@ pub fn classify(res: i32, cancelled: bool, empty: bool) -> Option<CqeResult>
         }
         return Some(CqeResult::Count { bytes });
     }
-    match (-result) as u32 {
+    match (-res) as u32 {
         11 | 4 => Some(CqeResult::Retry),
         125 if cancelled => Some(CqeResult::Cancelled),
         code => Some(CqeResult::Error { code }),

@@ -1,5 +1,6 @@
 //! One request: what may be asked, what it holds while it runs, and what it leaves.
 #![tactic(auto)]
+
 pub mod admission;
 pub mod complete;
 pub mod kinds;

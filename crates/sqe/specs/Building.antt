@@ -9,7 +9,6 @@ use Rattle.records.specs.declared.mode.Cache.TheVariants.{Enabled, Disabled}
 use Rattle.records.specs.declared.mode.WriteAtState.{WriteAtState}
 use Rattle.records.specs.declared.mode.WriteAtState.TheVariants.{Writing, WritingSync, WritingBeforeSync, Syncing}
 use Rattle.records.specs.declared.submission.Submission.{Submission}
-use Rattle.records.specs.declared.write.RowsWrite.{RowsWrite}
 use Rattle.records.specs.declared.write.WriteBuffers.{WriteBuffers}
 use Rattle.records.specs.declared.write.WriteBuffers.TheVariants.{Single, Rows}
 use Rattle.records.specs.Sums.{plus}

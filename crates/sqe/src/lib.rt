@@ -1,5 +1,6 @@
 //! Building a request's next submission.
 #![tactic(auto)]
+
 ghost use Rattle.std.specs.Prelude.{◌≡◌};
 ghost use Rattle.sqe.specs.Building.{kept_hint, hint_flag, sync_flag, part_of, part_list, datasync, send_built, recv_built, direct_built, buffered_built, read_built, bytes_built, write_built, write_list, built, built_list};
 
