@@ -1,6 +1,6 @@
 -- An admitted transfer begins with what holds.
-use Rattle.std.proofs.Common.{◌≡◌, ℕ, ◌+◌, ◌-◌, ◌*◌, ◌/◌, ◌%◌, ◌<◌, ◌≤◌, min, Bool, true, false, cond, ◌&&◌, ◌||◌, eqb, ltb, leb, ◌⊎◌, List, [], ◌∷◌, ◌++◌, length, take, drop, Some, None, Ok, Err, Option, Result, sym, refl, ap, ◌∙◌, inl, inr, arith}
-use Rattle.std.proofs.lemmas.Bool.{cond_both, leb-true, ltb-true, ltb-false, and_parts, or_parts}
+use Rattle.std.proofs.Common.{◌≡◌, ℕ, ◌+◌, ◌%◌, ◌<◌, ◌≤◌, min, Bool, true, false, cond, ◌&&◌, eqb, ltb, leb, List, length, Some, None, Ok, Err, Option, Result, refl, ap, ◌∙◌, inl, arith}
+use Rattle.std.proofs.lemmas.Bool.{cond_both, leb-true, and_parts}
 use Rattle.records.specs.declared.buffer.ChunkRow.{ChunkRow}
 use Rattle.records.specs.declared.denial.Denial.{Denial}
 use Rattle.records.specs.declared.denial.Denial.TheVariants.{LimitBroken, UnfitForDirect}
@@ -23,10 +23,10 @@ use Rattle.request.specs.declared.kinds.Wanted.{Wanted}
 use Rattle.request.specs.declared.kinds.Wanted.TheVariants as wanted
 use Rattle.request.specs.Admission.{admitted, begun, rows_begun, range_limits, send_begun, recv_begun, read_begun, direct_begun, direct_limits, write_begun, aligned_end, superset_length}
 use Rattle.rows.proofs.CursorLaws.{inside_none}
-use Rattle.rows.specs.Vectors.{range, total, all_within, inside_table, admitted_total, limited}
-use Rattle.runs.specs.Notions.{Tried, Tried.plainly, Tried.directly, bytes_wanted, source_bytes, sum, rows_of, first_attempt}
+use Rattle.rows.specs.Vectors.{range, total, all_within, inside_table, limited}
+use Rattle.runs.specs.Notions.{bytes_wanted, source_bytes, sum, rows_of, first_attempt}
 use Rattle.runs.proofs.Links.{range_is, sum_is, within_is}
-use Rattle.runs.proofs.Placing.{Placed, RowsPlaced, write_at, at_length}
+use Rattle.runs.proofs.Placing.{Placed, write_at, at_length}
 use Rattle.runs.proofs.Going.{hint, Going}
 
 abbrev pub AdmittedWell : List ChunkRow → Wanted → Result Request Denial → Type 0

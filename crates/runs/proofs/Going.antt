@@ -1,5 +1,5 @@
 -- What holds of a request while its transfer goes on, and of how it ends.
-use Rattle.std.proofs.Common.{◌≡◌, ℕ, ◌+◌, ◌-◌, ◌*◌, ◌/◌, ◌%◌, ◌<◌, ◌≤◌, Bool, true, false, cond, ◌⊎◌, List, [], ◌∷◌, ◌++◌, Some, None, sym, refl, ap, ◌∙◌, inl, inr, arith}
+use Rattle.std.proofs.Common.{◌≡◌, ℕ, ◌+◌, ◌-◌, ◌*◌, ◌/◌, ◌%◌, ◌<◌, ◌≤◌, Bool, true, false, ◌⊎◌, List, Some, None, sym, ap, ◌∙◌, inl, inr, arith}
 use Rattle.records.specs.declared.buffer.Buffer.{Buffer}
 use Rattle.records.specs.declared.buffer.ChunkRow.{ChunkRow}
 use Rattle.records.specs.declared.id.FileId.{FileId}
@@ -20,8 +20,8 @@ use Rattle.request.specs.declared.kinds.Wanted.TheVariants as wanted
 use Rattle.request.specs.Completing.{ended_well}
 use Rattle.cqe.specs.declared.step.Verdict.{Verdict}
 use Rattle.cqe.specs.declared.step.Verdict.TheVariants.{GoesOn, Ends}
-use Rattle.runs.specs.Notions.{Tried, Tried.directly, Tried.plainly, source_bytes, lead, pages, bytes_wanted}
-use Rattle.runs.specs.Laws.{Within, Covers, SyncedIf, Means, Something, most_completions, extra}
+use Rattle.runs.specs.Notions.{Tried, Tried.directly, Tried.plainly, source_bytes, bytes_wanted}
+use Rattle.runs.specs.Laws.{Within, Covers, SyncedIf, Means, most_completions}
 use Rattle.runs.proofs.Placing.{Placed, write_at}
 
 abbrev pub hint : Cache → ℕ

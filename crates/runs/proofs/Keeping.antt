@@ -1,9 +1,8 @@
 -- Every run of a transfer keeps the laws.
-use Rattle.std.proofs.Common.{◌≡◌, ℕ, ◌+◌, ◌<◌, ◌≤◌, Bool, true, false, cond, ◌&&◌, ◌||◌, eqb, leb, ◌⊎◌, List, [], ◌∷◌, ◌++◌, ℤ, Some, None, Ok, Err, Option, Result, sym, refl, ap, ◌∙◌, subst, inl, inr, arith}
+use Rattle.std.proofs.Common.{◌≡◌, ℕ, ◌<◌, Bool, true, false, cond, ◌||◌, eqb, leb, List, [], ◌∷◌, ◌++◌, ℤ, Some, None, Ok, Err, Option, Result, sym, refl, ◌∙◌, subst, inl, inr, arith}
 use Rattle.std.proofs.lemmas.Bool.{ne_eqb, leb-true}
 use Rattle.records.specs.declared.buffer.ChunkRow.{ChunkRow}
 use Rattle.records.specs.declared.denial.Denial.{Denial}
-use Rattle.records.specs.declared.outcome.Outcome.{Outcome}
 use Rattle.records.specs.declared.waiter.WaiterState.{WaiterState}
 use Rattle.records.specs.States.{cancel_granted}
 use Rattle.request.specs.declared.kinds.Request.{Request}
@@ -19,8 +18,8 @@ use Rattle.cqe.specs.Classes.{classified}
 use Rattle.cqe.specs.Cqe.{is_sync, fits, reacted, read_as, on_cqe}
 use Rattle.cqe.specs.Steps.{settled, settled_verdict}
 use Rattle.sqe.specs.Building.{built}
-use Rattle.runs.specs.Notions.{Event, Event.submitted, Event.completed, Heard, Heard.retry, Heard.failed, Heard.moved, heard, Tried, bytes_wanted, takes, tried, told, synced, synced_by, besides_retry, range_end, fsync_last, asked_last, cancelled_last}
-use Rattle.runs.specs.Laws.{Good, FitsAsked, Lawful, EndsRightly, EveryRunIsLawful}
+use Rattle.runs.specs.Notions.{Event, Event.submitted, Event.completed, Heard, Heard.retry, Heard.failed, Heard.moved, heard, Tried, bytes_wanted, takes, tried, synced, fsync_last, asked_last, cancelled_last}
+use Rattle.runs.specs.Laws.{Good, FitsAsked, Lawful, EveryRunIsLawful}
 use Rattle.runs.specs.declared.transfer.Standing.{Standing}
 use Rattle.runs.specs.declared.transfer.Standing.TheVariants.{Queued, InFlight, Ended}
 use Rattle.runs.specs.Runs.{stands, Run, Run.begins, Run.submits, Run.completes}

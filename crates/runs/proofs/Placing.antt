@@ -1,5 +1,5 @@
 -- A source with n of its bytes reported.
-use Rattle.std.proofs.Common.{◌≡◌, ℕ, zero, suc, ◌+◌, ◌-◌, ◌<◌, ◌≤◌, min, Bool, true, false, cond, ltb, leb, List, [], ◌∷◌, ◌++◌, length, take, drop, sym, refl, ap, ◌∙◌, arith}
+use Rattle.std.proofs.Common.{◌≡◌, ℕ, ◌+◌, ◌-◌, ◌≤◌, List, refl, arith}
 use Rattle.records.specs.Sums.{plus}
 use Rattle.records.specs.Writes.{write_length, write_done, write_left}
 use Rattle.records.specs.declared.buffer.ChunkRow.{ChunkRow}
@@ -9,7 +9,7 @@ use Rattle.records.specs.declared.write.Source.TheVariants as source
 use Rattle.records.specs.declared.write.WriteBuffers.{WriteBuffers}
 use Rattle.records.specs.declared.write.WriteBuffers.TheVariants as buffers
 use Rattle.rows.specs.Laws.{Sound, Stands, before}
-use Rattle.rows.specs.Vectors.{range, total, advanced, carried, iovecs_of, iovec_bytes}
+use Rattle.rows.specs.Vectors.{range, total, advanced}
 use Rattle.rows.proofs.CursorLaws.{cursor_laws}
 use Rattle.request.specs.Progress.{write_submitted}
 use Rattle.cqe.specs.Writes.{write_moved}

@@ -1,23 +1,21 @@
 -- A granted completion keeps what holds, whatever was wanted.
-use Rattle.std.proofs.Common.{◌≡◌, ℕ, ◌+◌, ◌-◌, ◌/◌, ◌%◌, ◌<◌, ◌≤◌, Bool, true, false, cond, not, ◌&&◌, ◌||◌, eqb, ltb, leb, ◌⊎◌, List, [], ◌∷◌, ◌++◌, ℤ, pos, negsuc, Some, None, Ok, Err, Option, Result, sym, refl, ap, ◌∙◌, inl, inr, arith}
-use Rattle.std.proofs.lemmas.Bool.{cond_both, eqb-true, eqb-false, ne_eqb}
+use Rattle.std.proofs.Common.{◌≡◌, ℕ, ◌+◌, ◌-◌, ◌/◌, ◌%◌, ◌<◌, Bool, true, false, cond, ◌&&◌, ◌||◌, eqb, ltb, List, ℤ, pos, negsuc, Some, None, Ok, Err, Option, Result, refl, ap, inl, inr, arith}
+use Rattle.std.proofs.lemmas.Bool.{eqb-true, eqb-false}
 use Rattle.records.specs.declared.buffer.ChunkRow.{ChunkRow}
 use Rattle.records.specs.declared.denial.Denial.{Denial}
 use Rattle.records.specs.declared.outcome.Outcome.TheVariants as outcome
 use Rattle.request.specs.declared.kinds.Request.{Request}
 use Rattle.request.specs.declared.kinds.Wanted.{Wanted}
 use Rattle.request.specs.declared.kinds.Wanted.TheVariants as wanted
-use Rattle.request.specs.Progress.{bytes_to_move}
 use Rattle.cqe.specs.declared.result.CqeResult.{CqeResult}
 use Rattle.cqe.specs.declared.result.CqeResult.TheVariants.{Retry, Cancelled, Error, Zero, Count}
 use Rattle.cqe.specs.declared.step.Step.{Step}
 use Rattle.cqe.specs.declared.step.Verdict.{Verdict}
 use Rattle.cqe.specs.declared.step.Verdict.TheVariants.{GoesOn, Ends}
-use Rattle.cqe.specs.Classes.{classified, count_class, error_class}
+use Rattle.cqe.specs.Classes.{classified, error_class}
 use Rattle.cqe.specs.Cqe.{fits, reacted, is_sync, read_as}
 use Rattle.cqe.specs.Steps.{settled, settled_verdict}
 use Rattle.runs.specs.Notions.{Heard, Heard.retry, Heard.failed, Heard.moved, heard, Tried, bytes_wanted, besides_retry, told, synced_by, range_end}
-use Rattle.runs.proofs.Placing.{at_length}
 use Rattle.runs.proofs.Going.{Going, After, stopping}
 use Rattle.runs.proofs.ReactingReads.{class_heard, Proper, recv_reacts, read_reacts, direct_reacts, read_plainly, read_after_direct}
 use Rattle.runs.proofs.ReactingWrites.{send_reacts, write_reacts, sync_reacts}

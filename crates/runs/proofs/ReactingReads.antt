@@ -1,5 +1,5 @@
 -- Completions of receives and reads keep what holds.
-use Rattle.std.proofs.Common.{◌≡◌, ℕ, ◌+◌, ◌-◌, ◌*◌, ◌/◌, ◌%◌, ◌<◌, ◌≤◌, min, Bool, true, false, cond, ◌&&◌, ◌||◌, eqb, ltb, leb, ◌⊎◌, List, [], ◌∷◌, ◌++◌, Some, None, sym, refl, ap, ◌∙◌, inl, inr, arith}
+use Rattle.std.proofs.Common.{◌≡◌, ℕ, ◌+◌, ◌-◌, ◌*◌, ◌/◌, ◌%◌, ◌<◌, ◌≤◌, min, Bool, true, false, cond, ◌&&◌, eqb, ltb, leb, List, Some, None, refl, inl, inr, arith}
 use Rattle.std.proofs.lemmas.Bool.{cond_both, ltb-true, ltb-false, leb-true, leb-false, eqb-true, lt-leb, lt-ltb, and_parts}
 use Rattle.records.specs.declared.buffer.Buffer.{Buffer}
 use Rattle.records.specs.declared.buffer.ChunkRow.{ChunkRow}
@@ -8,13 +8,11 @@ use Rattle.records.specs.declared.mode.Cache.{Cache}
 use Rattle.records.specs.declared.mode.Cache.TheVariants.{Enabled, Disabled}
 use Rattle.records.specs.declared.outcome.Outcome.{Outcome}
 use Rattle.records.specs.declared.outcome.Outcome.TheVariants as outcome
-use Rattle.records.specs.Modes.{hinting}
 use Rattle.records.specs.Sums.{plus}
 use Rattle.request.specs.declared.kinds.Direct.{Direct}
 use Rattle.request.specs.declared.kinds.ReadAtRequest.{ReadAtRequest}
 use Rattle.request.specs.declared.kinds.Request.{Request}
 use Rattle.request.specs.declared.kinds.Request.TheVariants as request
-use Rattle.request.specs.declared.kinds.Wanted.{Wanted}
 use Rattle.request.specs.declared.kinds.Wanted.TheVariants as wanted
 use Rattle.request.specs.Completing.{ended_well}
 use Rattle.cqe.specs.declared.result.CqeResult.{CqeResult}
@@ -22,13 +20,12 @@ use Rattle.cqe.specs.declared.result.CqeResult.TheVariants.{Retry, Cancelled, Er
 use Rattle.cqe.specs.declared.step.Step.{Step}
 use Rattle.cqe.specs.declared.step.Verdict.{Verdict}
 use Rattle.cqe.specs.declared.step.Verdict.TheVariants.{GoesOn, Ends}
-use Rattle.cqe.specs.Cqe.{fits, reacted}
-use Rattle.cqe.specs.Reads.{recv_step, buffered_step, direct_step, given_up, read_more, read_whole, without_hint}
+use Rattle.cqe.specs.Cqe.{fits}
+use Rattle.cqe.specs.Reads.{recv_step, buffered_step, direct_step, given_up, without_hint}
 use Rattle.cqe.specs.Steps.{stepped, unhinted}
-use Rattle.runs.specs.Notions.{Heard, Heard.retry, Heard.failed, Heard.moved, Tried, Tried.directly, Tried.plainly, lead, pages, reports, besides_retry, counted_directly, whole_pages}
-use Rattle.runs.specs.Laws.{Within, Covers, Means, Something}
+use Rattle.runs.specs.Notions.{Heard, Heard.retry, Heard.failed, Heard.moved, Tried, Tried.directly, Tried.plainly, lead, reports, besides_retry, counted_directly}
 use Rattle.runs.proofs.Links.{plus_is}
-use Rattle.runs.proofs.Going.{hint, Receiving, Reading, Directly, Going, After, not_ok, ends_badly}
+use Rattle.runs.proofs.Going.{hint, Reading, Directly, After, not_ok, ends_badly}
 
 -- a classified result in the laws' words
 abbrev pub class_heard : CqeResult → Heard

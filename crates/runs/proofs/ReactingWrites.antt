@@ -1,5 +1,5 @@
 -- Completions of sends and writes keep what holds.
-use Rattle.std.proofs.Common.{◌≡◌, ℕ, ◌+◌, ◌-◌, ◌<◌, ◌≤◌, min, Bool, true, false, cond, ◌&&◌, ◌||◌, eqb, ltb, leb, ◌⊎◌, List, [], ◌∷◌, ◌++◌, sym, refl, ap, ◌∙◌, subst, inl, inr, arith}
+use Rattle.std.proofs.Common.{◌≡◌, ℕ, ◌+◌, ◌-◌, ◌<◌, ◌≤◌, Bool, true, false, ◌&&◌, eqb, ltb, List, refl, ap, subst, inl, inr, arith}
 use Rattle.std.proofs.lemmas.Bool.{cond_both, ltb-true, ltb-false, leb-true, and_parts}
 use Rattle.records.specs.declared.buffer.ChunkRow.{ChunkRow}
 use Rattle.records.specs.declared.id.FileId.{FileId}
@@ -12,28 +12,24 @@ use Rattle.records.specs.declared.outcome.Outcome.{Outcome}
 use Rattle.records.specs.declared.outcome.Outcome.TheVariants as outcome
 use Rattle.records.specs.declared.write.Cursor.{Cursor}
 use Rattle.records.specs.declared.write.Source.{Source}
-use Rattle.records.specs.Modes.{hinting, started}
-use Rattle.records.specs.Writes.{write_left}
+use Rattle.records.specs.Modes.{started}
 use Rattle.request.specs.declared.kinds.SendRequest.{SendRequest}
 use Rattle.request.specs.declared.kinds.WriteAtRequest.{WriteAtRequest}
-use Rattle.request.specs.declared.kinds.Request.{Request}
 use Rattle.request.specs.declared.kinds.Request.TheVariants as request
-use Rattle.request.specs.declared.kinds.Wanted.{Wanted}
 use Rattle.request.specs.declared.kinds.Wanted.TheVariants as wanted
 use Rattle.request.specs.Completing.{ended_well}
 use Rattle.request.specs.Progress.{write_submitted}
 use Rattle.cqe.specs.declared.result.CqeResult.{CqeResult}
 use Rattle.cqe.specs.declared.result.CqeResult.TheVariants.{Retry, Cancelled, Error, Zero, Count}
 use Rattle.cqe.specs.declared.step.Step.{Step}
-use Rattle.cqe.specs.declared.step.Verdict.{Verdict}
 use Rattle.cqe.specs.declared.step.Verdict.TheVariants.{GoesOn, Ends}
 use Rattle.cqe.specs.Cqe.{fits, syncs_in}
 use Rattle.cqe.specs.Steps.{stepped, unhinted}
-use Rattle.cqe.specs.Writes.{send_step, bytes_step, write_step, write_moved, write_whole, write_with, without_hint, write_error, sync_verdict}
-use Rattle.runs.specs.Notions.{Heard, Heard.retry, Heard.failed, Heard.moved, Tried, Tried.directly, Tried.plainly, source_bytes, reports, besides_retry, told, synced_by}
-use Rattle.runs.specs.Laws.{Within, Covers, Means, SyncedIf}
+use Rattle.cqe.specs.Writes.{send_step, bytes_step, write_step, write_whole, without_hint, write_error, sync_verdict}
+use Rattle.runs.specs.Notions.{Tried.plainly, source_bytes, reports, besides_retry, told, synced_by}
+use Rattle.runs.specs.Laws.{SyncedIf}
 use Rattle.runs.proofs.Placing.{Placed, Moved, write_at, at_left, at_moves}
-use Rattle.runs.proofs.Going.{hint, Sending, Writing, Owing, Going, After, ends_badly}
+use Rattle.runs.proofs.Going.{hint, Sending, Going, After, ends_badly}
 use Rattle.runs.proofs.ReactingReads.{class_heard, Proper}
 
 -- sends

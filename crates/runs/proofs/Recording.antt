@@ -1,5 +1,5 @@
 -- A call's answer and what it leaves make the record grow.
-use Rattle.std.proofs.Common.{◌≡◌, List, [], ◌∷◌, ℤ, Ok, Err, Result, refl}
+use Rattle.std.proofs.Common.{◌≡◌, List, ℤ, Ok, Err, Result, refl}
 use Rattle.records.specs.declared.buffer.ChunkRow.{ChunkRow}
 use Rattle.records.specs.declared.buffer.Iovec.{Iovec}
 use Rattle.records.specs.declared.denial.Denial.{Denial}

@@ -1,5 +1,5 @@
 -- A submission begins where the laws say, and the request in flight keeps what holds.
-use Rattle.std.proofs.Common.{◌≡◌, ℕ, zero, suc, ◌+◌, ◌-◌, ◌/◌, ◌%◌, ◌<◌, ◌≤◌, min, Bool, true, false, cond, eqb, ltb, leb, ◌⊎◌, List, [], ◌∷◌, ◌++◌, length, take, drop, Some, None, Ok, Err, Result, sym, refl, ap, ◌∙◌, inl, inr, arith}
+use Rattle.std.proofs.Common.{◌≡◌, ℕ, suc, ◌+◌, ◌-◌, ◌%◌, ◌<◌, ◌≤◌, min, Bool, true, false, cond, ltb, List, [], ◌∷◌, ◌++◌, length, take, drop, Ok, Err, Result, sym, refl, ap, ◌∙◌, inl, inr, arith}
 use Rattle.records.specs.declared.buffer.ChunkRow.{ChunkRow}
 use Rattle.records.specs.declared.buffer.Iovec.{Iovec}
 use Rattle.records.specs.declared.denial.Denial.{Denial}
@@ -9,32 +9,29 @@ use Rattle.records.specs.declared.mode.Cache.{Cache}
 use Rattle.records.specs.declared.mode.Cache.TheVariants.{Enabled, Disabled}
 use Rattle.records.specs.declared.mode.WriteMode.{WriteMode}
 use Rattle.records.specs.declared.mode.WriteMode.TheVariants as mode
-use Rattle.records.specs.declared.mode.WriteAtState.{WriteAtState}
-use Rattle.records.specs.declared.mode.WriteAtState.TheVariants as state
 use Rattle.records.specs.declared.write.Cursor.{Cursor}
 use Rattle.records.specs.declared.write.Source.{Source}
 use Rattle.records.specs.declared.write.Source.TheVariants as source
 use Rattle.records.specs.Modes.{started}
 use Rattle.records.specs.Sums.{plus}
-use Rattle.request.specs.declared.kinds.ReadAtRequest.{ReadAtRequest}
 use Rattle.request.specs.declared.kinds.WriteAtRequest.{WriteAtRequest}
 use Rattle.request.specs.declared.kinds.Request.{Request}
 use Rattle.request.specs.declared.kinds.Request.TheVariants as request
 use Rattle.request.specs.declared.kinds.Wanted.{Wanted}
 use Rattle.request.specs.declared.kinds.Wanted.TheVariants as wanted
 use Rattle.request.specs.Progress.{bytes_submitted}
-use Rattle.rows.specs.Laws.{left_after, before}
-use Rattle.rows.specs.Vectors.{range, carried, iovecs_of, iovec_of, iovec_bytes, total}
+use Rattle.rows.specs.Laws.{left_after}
+use Rattle.rows.specs.Vectors.{range, carried, iovecs_of, iovec_bytes}
 use Rattle.rows.proofs.CursorLaws.{cursor_laws}
 use Rattle.cqe.specs.Cqe.{is_sync}
 use Rattle.sqe.specs.declared.Setting.{Setting}
 use Rattle.sqe.specs.declared.Staged.{Staged}
 use Rattle.sqe.specs.Building.{built, built_list, kept_hint, send_built, bytes_built, rows_part}
-use Rattle.runs.specs.Notions.{Tried, Tried.plainly, Tried.directly, is_fsync, asks_for, sizes, rows_of, source_bytes, lead, bytes_wanted}
+use Rattle.runs.specs.Notions.{Tried, Tried.plainly, is_fsync, asks_for, sizes, rows_of, source_bytes, bytes_wanted}
 use Rattle.runs.specs.Laws.{Begins}
 use Rattle.runs.proofs.Links.{plus_is, sizes_is}
 use Rattle.runs.proofs.Placing.{Placed, RowsPlaced, write_at}
-use Rattle.runs.proofs.Going.{hint, Sending, Writing, Owing, Going}
+use Rattle.runs.proofs.Going.{hint, Going}
 use Rattle.runs.proofs.ReactingWrites.{WriteFacts}
 
 -- what a built submission is, for the request in flight

@@ -1,5 +1,5 @@
 -- The laws of a transfer's run.
-use Rattle.std.specs.Prelude.{◌≡◌, ℕ, ◌+◌, ◌-◌, ◌/◌, ◌<◌, ◌≤◌, Bool, true, false, List, [], ◌∷◌, ◌++◌, take, ℤ}
+use Rattle.std.specs.Prelude.{◌≡◌, ℕ, ◌+◌, ◌-◌, ◌/◌, ◌<◌, ◌≤◌, Bool, true, false, List, ◌∷◌, ◌++◌, take}
 use Rattle.records.specs.declared.buffer.ChunkRow.{ChunkRow}
 use Rattle.records.specs.declared.buffer.Iovec.{Iovec}
 use Rattle.records.specs.declared.mode.WriteMode.{WriteMode}
@@ -9,7 +9,6 @@ use Rattle.records.specs.declared.outcome.Outcome.TheVariants as outcome
 use Rattle.records.specs.declared.submission.Submission.{Submission}
 use Rattle.records.specs.declared.write.Source.{Source}
 use Rattle.records.specs.declared.write.Source.TheVariants as source
-use Rattle.request.specs.declared.kinds.Request.{Request}
 use Rattle.request.specs.declared.kinds.Wanted.{Wanted}
 use Rattle.request.specs.declared.kinds.Wanted.TheVariants as wanted
 use Rattle.request.specs.Progress.{bytes_submitted}

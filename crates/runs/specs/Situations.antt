@@ -1,10 +1,8 @@
 -- Worked situations: what a request and its completions come to, number by number.
-use Rattle.std.specs.Prelude.{◌≡◌, ℕ, Bool, true, false, List, [], ◌∷◌, replicate, ℤ, pos, negsuc, Some, None, Ok, Err, Option, Result}
+use Rattle.std.specs.Prelude.{◌≡◌, ℕ, true, List, [], ◌∷◌, replicate, ℤ, pos, negsuc, Some, None, Ok, Err, Option, Result}
 use Rattle.records.specs.Answers.{denial_number, denial_value}
 use Rattle.records.specs.Tokens.{token}
-use Rattle.records.specs.declared.buffer.Buffer.{Buffer}
 use Rattle.records.specs.declared.buffer.ChunkRow.{ChunkRow}
-use Rattle.records.specs.declared.buffer.Iovec.{Iovec}
 use Rattle.records.specs.declared.denial.Denial.{Denial}
 use Rattle.records.specs.declared.id.FileId.{FileId}
 use Rattle.records.specs.declared.mode.Cache.TheVariants.{Enabled}
@@ -13,7 +11,6 @@ use Rattle.records.specs.declared.outcome.Outcome.{Outcome}
 use Rattle.records.specs.declared.outcome.Outcome.TheVariants as outcome
 use Rattle.records.specs.declared.output.RequestOutput.{RequestOutput}
 use Rattle.records.specs.declared.output.RequestOutput.TheVariants as output
-use Rattle.records.specs.declared.submission.Submission.{Submission}
 use Rattle.records.specs.declared.waiter.WaiterState.{WaiterState}
 use Rattle.records.specs.declared.waiter.WaiterState.TheVariants.{Active, CancelRequested}
 use Rattle.records.specs.declared.write.Source.TheVariants.{Single, Rows}

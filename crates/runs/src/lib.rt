@@ -1,5 +1,6 @@
 //! One transfer from its admission to its result, what holds of all its runs, and some runs worked out.
 #![tactic(auto)]
+
 pub mod laws;
 pub mod transfer;
 
