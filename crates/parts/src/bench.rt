@@ -2,7 +2,7 @@
 use ledger::{Counts, Ledger, fresh_row};
 use marks::{Marks, fresh_marks};
 use records::{Outcome, WriteAtState};
-use slab::{Slab, Slot};
+use slots::{Slab, Slot};
 use std::io;
 use std::time::{Duration, Instant};
 

@@ -1,6 +1,6 @@
 //! Calls on a slab of three slots, over memory that held something else.
 use records::Id;
-use slab::{Slab, Slot};
+use slots::{Slab, Slot};
 use std::io;
 
 #[derive(Clone, Copy)]

@@ -1,5 +1,5 @@
 -- When a read gives direct reading up.
-use Rattle.std.specs.Prelude.{Bool, true, false, not, ◌&&◌, is_some}
+use Rattle.std.specs.Prelude.{Bool, false, not, ◌&&◌, is_some}
 use Rattle.request.specs.declared.kinds.Request.{Request}
 use Rattle.request.specs.declared.kinds.Request.TheVariants.{Send, Recv, ReadAt, WriteAt, Sync}
 use Rattle.cqe.specs.declared.step.Verdict.{Verdict}

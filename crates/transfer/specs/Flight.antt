@@ -1,5 +1,5 @@
 -- What is in flight after a call.
-use Rattle.std.specs.Prelude.{Bool, true, false, cond, ℤ, Some, None, Ok, Err, vec_items, Option, Result}
+use Rattle.std.specs.Prelude.{Bool, false, cond, ℤ, Some, None, Ok, Err, vec_items, Option, Result}
 use Rattle.records.specs.declared.denial.Denial.{Denial}
 use Rattle.records.specs.declared.submission.Submission.{Submission}
 use Rattle.records.specs.declared.waiter.WaiterState.TheVariants.{Active, CancelRequested}

@@ -1,4 +1,6 @@
 //! Plays texts of transfers, and prints what becomes of each.
+#![tactic(auto)]
+
 mod fault;
 mod input;
 mod play;

@@ -1,7 +1,7 @@
 //! The entries of a slab. No call walks the slots.
 ghost use Rattle.std.specs.Prelude.{◌≡◌, is_some};
 ghost use Rattle.std.specs.List.{slice_get};
-ghost use Rattle.slab.specs.Slots.{slab, capacity, found, resolves, next_generation, id_of, id_again, next_id, advanced, inserted, replaced, vacated, removed, id_at};
+ghost use Rattle.slots.specs.Slots.{slab, capacity, found, resolves, next_generation, id_of, id_again, next_id, advanced, inserted, replaced, vacated, removed, id_at};
 
 use crate::slab::{Slab, Slot, empty_slot, full_slot};
 use records::Id;

@@ -3,9 +3,9 @@ use Rattle.std.proofs.Common.{◌≡◌, ℕ, ◌+◌, ◌-◌, ◌<◌, ◌≤�
 use Rattle.std.specs.List.{slice_get}
 use Rattle.std.proofs.lemmas.Bool.Decides.{nat_tests}
 use Rattle.records.specs.declared.id.Id.{Id}
-use Rattle.slab.specs.declared.slab.Slot.{Slot}
-use Rattle.slab.specs.Slots.{Slots, id_of, found, resolves, resolves_in, full, empty, one_more}
-use Rattle.slab.specs.Events.{same_id}
+use Rattle.slots.specs.declared.slab.Slot.{Slot}
+use Rattle.slots.specs.Slots.{Slots, id_of, found, resolves, resolves_in, full, empty, one_more}
+use Rattle.slots.specs.Events.{same_id}
 use Rattle.tables.proofs.Lists.{nth_set_same, nth_set_other}
 
 module _ {T : Type 0} where

@@ -4,14 +4,14 @@ use Rattle.std.specs.List.{slice_get}
 use Rattle.std.proofs.lemmas.List.{length-set}
 use Rattle.std.proofs.lemmas.Bool.{ltb-true, cases_eq, cases_Bool, cond_both}
 use Rattle.records.specs.declared.id.Id.{Id}
-use Rattle.slab.specs.declared.slab.Slot.{Slot}
-use Rattle.slab.specs.Slots.{Slots, id_of, found, id_again, next_id, advanced, free_behind, with_slot, with_len, inserted, inserted_as, full, one_more}
-use Rattle.slab.specs.Events.{Event, Event.insert, same_id, rest, one_if_none, standing, given, removals, freed, touched}
-use Rattle.slab.specs.Laws.{Among, one_if_some, entries}
+use Rattle.slots.specs.declared.slab.Slot.{Slot}
+use Rattle.slots.specs.Slots.{Slots, id_of, found, id_again, next_id, advanced, free_behind, with_slot, with_len, inserted, inserted_as, full, one_more}
+use Rattle.slots.specs.Events.{Event, Event.insert, same_id, rest, one_if_none, standing, given, removals, freed, touched}
+use Rattle.slots.specs.Laws.{Among, one_if_some, entries}
 use Rattle.tables.proofs.Lists.{nth_set_same, nth_set_other}
-use Rattle.slab.proofs.Finds.{made, found_new, found_again}
-use Rattle.slab.proofs.Chains.{Free, Chain, Chain.none, Chain.more, chain_kept, entries_few, entries_set, entries_more}
-use Rattle.slab.proofs.Kept.{same_is, spent, Old, Retired, Kept, refused_insert}
+use Rattle.slots.proofs.Finds.{made, found_new, found_again}
+use Rattle.slots.proofs.Chains.{Free, Chain, Chain.none, Chain.more, chain_kept, entries_few, entries_set, entries_more}
+use Rattle.slots.proofs.Kept.{same_is, spent, Old, Retired, Kept, refused_insert}
 
 module _ {T : Type 0} where
   -- an entry goes into the slot at i, at generation g, and the free list loses its first slot, if it has one

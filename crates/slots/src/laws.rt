@@ -1,8 +1,8 @@
 //! What holds of every slab.
 ghost use Rattle.std.specs.Prelude.{[], ◌∷◌};
-ghost use Rattle.slab.specs.Events.{Event.insert, Event.set, Event.remove};
-ghost use Rattle.slab.specs.Laws.{Carries, SlabLaws};
-ghost use Rattle.slab.specs.Slots.{slab};
+ghost use Rattle.slots.specs.Events.{Event.insert, Event.set, Event.remove};
+ghost use Rattle.slots.specs.Laws.{Carries, SlabLaws};
+ghost use Rattle.slots.specs.Slots.{slab};
 
 use crate::slab::Slab;
 use records::Id;

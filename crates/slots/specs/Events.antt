@@ -1,8 +1,8 @@
 -- What was asked of a slab since it began, and what that alone tells.
 use Rattle.std.specs.Prelude.{◌≡◌, ℕ, ◌+◌, min, Bool, true, false, cond, ◌&&◌, List, [], ◌∷◌, length, is_some, Some, None, Option, ◌==◌, nat_lt}
 use Rattle.records.specs.declared.id.Id.{Id}
-use Rattle.slab.specs.declared.slab.Slot.{Slot}
-use Rattle.slab.specs.Slots.{Slots, fresh, found, next_id, inserted, replaced, removed}
+use Rattle.slots.specs.declared.slab.Slot.{Slot}
+use Rattle.slots.specs.Slots.{Slots, fresh, found, next_id, inserted, replaced, removed}
 
 -- a call that may change the slab, with its answer
 pub data Event (T : Type 0) : Type 0 where

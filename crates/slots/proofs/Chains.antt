@@ -2,8 +2,8 @@
 use Rattle.std.proofs.Common.{◌≡◌, ℕ, zero, suc, ◌+◌, ◌-◌, ◌<◌, ◌≤◌, min, Bool, true, false, cond, eqb, ltb, ◌⊎◌, List, [], ◌∷◌, length, take, set, Some, None, Option, sym, refl, ap, ◌∙◌, inl, inr, ⊎_elim, arith}
 use Rattle.std.specs.List.{slice_get}
 use Rattle.records.specs.declared.id.Id.{Id}
-use Rattle.slab.specs.declared.slab.Slot.{Slot}
-use Rattle.slab.specs.Laws.{Among, Apart, Links, Links.end, Links.link, one_if_some, entries}
+use Rattle.slots.specs.declared.slab.Slot.{Slot}
+use Rattle.slots.specs.Laws.{Among, Apart, Links, Links.end, Links.link, one_if_some, entries}
 
 module _ {T : Type 0} where
   -- a free slot: it has no entry, and its generation counts its removals

@@ -1,6 +1,6 @@
 //! A slab over lent slots: what it is made of, and its counts.
 ghost use Rattle.std.specs.Prelude.{◌≡◌};
-ghost use Rattle.slab.specs.Slots.{slab, fresh, empty, full, unused_slot};
+ghost use Rattle.slots.specs.Slots.{slab, fresh, empty, full, unused_slot};
 
 /// One slot and its present incarnation.
 #[derive(Clone, Copy)]

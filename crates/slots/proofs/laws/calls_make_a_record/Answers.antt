@@ -1,6 +1,6 @@
-use Rattle.slab.specs.Events.{Reached.inserts, Reached.sets, Reached.removes}
-use Rattle.slab.proofs.Lawful.{slab_laws}
-use Rattle.slab.proofs.laws.calls_make_a_record.Goals as goal
+use Rattle.slots.specs.Events.{Reached.inserts, Reached.sets, Reached.removes}
+use Rattle.slots.proofs.Lawful.{slab_laws}
+use Rattle.slots.proofs.laws.calls_make_a_record.Goals as goal
 
 pub returns : goal.returns
 returns g c slots h d =

@@ -4,15 +4,15 @@ use Rattle.std.specs.List.{slice_get}
 use Rattle.std.proofs.lemmas.List.{length-set}
 use Rattle.std.proofs.lemmas.Bool.{and_parts, eqb-true, eq-eqb, ne_eqb, cases_eq, cond_both, cond-true, cond-false, and_left}
 use Rattle.records.specs.declared.id.Id.{Id}
-use Rattle.slab.specs.declared.slab.Slot.{Slot}
-use Rattle.slab.specs.Slots.{Slots, found, with_len, removed, removed_if, vacated_to, empty}
-use Rattle.slab.specs.Events.{Event, Event.remove, same_id, standing, given, removals, freed, left}
-use Rattle.slab.specs.Laws.{Among, one_if_some}
+use Rattle.slots.specs.declared.slab.Slot.{Slot}
+use Rattle.slots.specs.Slots.{Slots, found, with_len, removed, removed_if, vacated_to, empty}
+use Rattle.slots.specs.Events.{Event, Event.remove, same_id, standing, given, removals, freed, left}
+use Rattle.slots.specs.Laws.{Among, one_if_some}
 use Rattle.tables.proofs.Lists.{nth_set_same, nth_set_other}
-use Rattle.slab.proofs.Finds.{made, Held, found_out}
-use Rattle.slab.proofs.Chains.{Chain, Chain.more, chain_kept, entries_set, entries_some}
-use Rattle.slab.proofs.Kept.{same_is, taken, spent, Old, Retired, Kept, refused_remove}
-use Rattle.slab.proofs.Live.{at_hand, here, off_chain, lives, other_index}
+use Rattle.slots.proofs.Finds.{made, Held, found_out}
+use Rattle.slots.proofs.Chains.{Chain, Chain.more, chain_kept, entries_set, entries_some}
+use Rattle.slots.proofs.Kept.{same_is, taken, spent, Old, Retired, Kept, refused_remove}
+use Rattle.slots.proofs.Live.{at_hand, here, off_chain, lives, other_index}
 
 module _ {T : Type 0} where
   module _ (table : List (Slot T)) (s : Slots T) (h : List (Event T)) (j : Id) (x : T) (k : Kept table s h) (e : found s j ≡ Some x) where

@@ -2,8 +2,8 @@
 use Rattle.std.specs.Prelude.{ℕ, ◌+◌, ◌-◌, min, cond, List, length, Some, None, Option, ◌==◌, nat_lt, slice_set}
 use Rattle.std.specs.List.{slice_get}
 use Rattle.records.specs.declared.id.Id.{Id}
-use Rattle.slab.specs.declared.slab.Slot.{Slot}
-use Rattle.slab.specs.declared.slab.Slab.{Slab}
+use Rattle.slots.specs.declared.slab.Slot.{Slot}
+use Rattle.slots.specs.declared.slab.Slab.{Slab}
 
 -- the slots from `used` on were never used; `free` is the slot freed last, whose `next` was freed before it, and so on
 pub record Slots (T : Type 0) : Type 0 where

@@ -4,14 +4,14 @@ use Rattle.std.specs.List.{slice_get}
 use Rattle.std.proofs.lemmas.List.{length-set}
 use Rattle.std.proofs.lemmas.Bool.{cases_eq, cases_Bool}
 use Rattle.records.specs.declared.id.Id.{Id}
-use Rattle.slab.specs.declared.slab.Slot.{Slot}
-use Rattle.slab.specs.Slots.{Slots, found, replaced, replaced_if, full}
-use Rattle.slab.specs.Events.{Event, Event.set as put, same_id, standing, given, removals, freed}
-use Rattle.slab.specs.Laws.{Among, one_if_some}
+use Rattle.slots.specs.declared.slab.Slot.{Slot}
+use Rattle.slots.specs.Slots.{Slots, found, replaced, replaced_if, full}
+use Rattle.slots.specs.Events.{Event, Event.set as put, same_id, standing, given, removals, freed}
+use Rattle.slots.specs.Laws.{Among, one_if_some}
 use Rattle.tables.proofs.Lists.{nth_set_same, nth_set_other}
-use Rattle.slab.proofs.Finds.{made, Held, held, found_set}
-use Rattle.slab.proofs.Chains.{chain_kept, full_off, entries_set}
-use Rattle.slab.proofs.Kept.{same_is, taken, spent, Old, Kept, refused_set}
+use Rattle.slots.proofs.Finds.{made, Held, held, found_set}
+use Rattle.slots.proofs.Chains.{chain_kept, full_off, entries_set}
+use Rattle.slots.proofs.Kept.{same_is, taken, spent, Old, Kept, refused_set}
 
 module _ {T : Type 0} where
   -- a live id and its slot
