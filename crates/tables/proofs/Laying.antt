@@ -1,10 +1,9 @@
 -- Lists in the first places of a slice.
-use Rattle.std.proofs.Common.{◌≡◌, ℕ, zero, suc, ◌+◌, ◌-◌, ◌<◌, ◌≤◌, min, Bool, true, false, cond, ltb, leb, List, [], ◌∷◌, ◌++◌, length, take, drop, set, Some, None, sym, refl, ap, ◌∙◌, append_assoc, append-nil, arith, length-append}
-use native.Mathlib.Numerals.{unary_clauses}
+use Rattle.std.proofs.Common.{◌≡◌, ℕ, zero, suc, ◌+◌, ◌-◌, ◌<◌, ◌≤◌, min, true, false, leb, List, [], ◌∷◌, ◌++◌, length, take, drop, set, Some, None, sym, refl, ap, ◌∙◌, append_assoc, append-nil, arith, length-append}
 use Rattle.std.proofs.lemmas.List.{drop_all, length-take, length-drop, set_past}
-use Rattle.std.proofs.lemmas.Bool.{ltb-true, ltb-false, lt-ltb, le-ltb, le-leb}
+use Rattle.std.proofs.lemmas.Bool.{le-leb}
 use Rattle.std.specs.List.{slice_get}
-use Rattle.tables.specs.Listed.{Listed, laid, appends, appended, appended_to, some_free, emptied, unfilled, writes, written, First}
+use Rattle.tables.specs.Listed.{Listed, laid, appends, appended, emptied, written, First}
 use Rattle.tables.proofs.Lists.{nth_take, nth_take_past, drop_some}
 
 module _ {X : Type 0} where

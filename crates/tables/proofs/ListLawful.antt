@@ -1,8 +1,8 @@
 -- Every list over lent places is lawful.
-use Rattle.std.proofs.Common.{◌≡◌, ℕ, zero, suc, ◌+◌, ◌-◌, ◌<◌, ◌≤◌, Bool, true, false, cond, leb, List, [], ◌∷◌, ◌++◌, length, take, drop, Some, None, Option, sym, refl, ap, ◌∙◌, append_assoc, arith, length-append, length-drop}
+use Rattle.std.proofs.Common.{◌≡◌, ℕ, zero, suc, ◌<◌, ◌≤◌, true, false, List, [], ◌∷◌, ◌++◌, length, drop, Some, None, Option, sym, refl, ap, ◌∙◌, arith, length-append, length-drop}
 use Rattle.std.proofs.lemmas.Bool.{leb-true, cond_both}
 use Rattle.std.specs.List.{slice_get}
-use Rattle.tables.specs.Listed.{Listed, laid, unfilled, emptied, appended, appended_to, appends, some_free, writes, written, First}
+use Rattle.tables.specs.Listed.{Listed, laid, emptied, appended, appended_to, some_free, writes, written, First}
 use Rattle.tables.specs.ListLaws.{memory, appended_each, ListLaws}
 use Rattle.tables.proofs.Laying.{parts, laid_none, extended, extended_emptied}
 

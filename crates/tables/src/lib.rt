@@ -1,5 +1,6 @@
 //! Lists over memory that the caller lends.
 #![tactic(auto)]
+
 pub mod laws;
 pub mod lent;
 pub mod list;
