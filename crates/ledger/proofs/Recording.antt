@@ -5,7 +5,7 @@ use Rattle.std.specs.declared.result.Result.TheVariants as result
 use Rattle.records.specs.declared.outcome.Outcome.{Outcome}
 use Rattle.records.specs.declared.outcome.Outcome.TheVariants.{Ok}
 use Rattle.ledger.specs.declared.row.Row.{Row}
-use Rattle.ledger.specs.Meaning.{fresh_row, row_at, on_row, ended_row, counted, completed_at, taint_at, sync_wanted_at, sync_wanted, sync_answer}
+use Rattle.ledger.specs.Meaning.{fresh_row, row_at, on_row, ended_row, completed_at, taint_at, sync_wanted_at, sync_wanted, sync_answer}
 use Rattle.ledger.specs.Notions.{Telling, Telling.wrote, Telling.sync_ended, row_of, freshens, counts, ever_freshened, ever_told, writes_counted}
 use Rattle.ledger.specs.Laws.{Told, Told.begins, Told.goes_on, does, Answered, LedgerLaws, covered_at}
 use Rattle.ledger.proofs.Changing.{Fits, fits_same, fits_other, row_same, row_other, row_past, row_kept, as_many, told_as, taint_kept, covered_kept, completed_kept, taint_ok, first_fair, does_fair, untainted, nothing_left, passed_state, passed_result, durable_answer}

@@ -1,5 +1,6 @@
 //! The ledger of writes that are not yet durable: for each file, how many completed, how many a sync covered, and the error that taints it.
 #![tactic(auto)]
+
 pub mod counts;
 pub mod laws;
 pub mod ledger;

@@ -1,10 +1,10 @@
 -- What a lookup finds after each call of a slab.
-use Rattle.std.proofs.Common.{◌≡◌, ℕ, ◌+◌, ◌-◌, ◌<◌, ◌≤◌, min, Bool, true, false, cond, ◌&&◌, eqb, ltb, List, [], ◌∷◌, length, set, is_some, Some, None, Option, sym, refl, ap, ◌∙◌, arith}
+use Rattle.std.proofs.Common.{◌≡◌, ℕ, ◌+◌, ◌<◌, cond, List, length, set, Some, None, Option, refl, arith}
 use Rattle.std.specs.List.{slice_get}
 use Rattle.std.proofs.lemmas.Bool.Decides.{nat_tests}
 use Rattle.records.specs.declared.id.Id.{Id}
 use Rattle.slots.specs.declared.slab.Slot.{Slot}
-use Rattle.slots.specs.Slots.{Slots, id_of, found, resolves, resolves_in, full, empty, one_more}
+use Rattle.slots.specs.Slots.{Slots, id_of, found, full, empty}
 use Rattle.slots.specs.Events.{same_id}
 use Rattle.tables.proofs.Lists.{nth_set_same, nth_set_other}
 

@@ -1,11 +1,11 @@
 -- What holds of a slab and its record; a refused call keeps it.
-use Rattle.std.proofs.Common.{◌≡◌, ℕ, ◌+◌, ◌-◌, ◌<◌, ◌≤◌, min, Bool, true, false, cond, ◌&&◌, eqb, ltb, List, [], ◌∷◌, length, take, Some, None, refl, arith}
+use Rattle.std.proofs.Common.{◌≡◌, ℕ, ◌+◌, ◌<◌, ◌≤◌, min, Bool, true, false, cond, ◌&&◌, eqb, ltb, List, [], ◌∷◌, length, take, Some, None, refl, arith}
 use Rattle.std.specs.List.{slice_get}
 use Rattle.std.proofs.lemmas.Bool.{and_parts, eqb-true, ne_eqb, and_left}
 use Rattle.std.proofs.lemmas.Bool.Decides.{nat_tests}
 use Rattle.records.specs.declared.id.Id.{Id}
 use Rattle.slots.specs.declared.slab.Slot.{Slot}
-use Rattle.slots.specs.Slots.{Slots, fresh, id_of, found, removed}
+use Rattle.slots.specs.Slots.{Slots, fresh, id_of, found}
 use Rattle.slots.specs.Events.{Event, Event.insert, Event.set as put, Event.remove, same_id, standing, given, removals, freed, touched, came, left}
 use Rattle.slots.specs.Laws.{Among, entries}
 use Rattle.slots.proofs.Chains.{Chain, Chain.none}

@@ -1,17 +1,17 @@
 -- Every slab is lawful, over every sequence of its calls.
-use Rattle.std.proofs.Common.{◌≡◌, ℕ, ◌+◌, ◌-◌, ◌<◌, ◌≤◌, min, Bool, true, false, cond, ◌&&◌, eqb, ltb, ◌⊎◌, List, [], ◌∷◌, ◌++◌, length, take, is_some, Some, None, Option, sym, refl, ap, ◌∙◌, subst, inl, inr, ⊎_elim, arith}
+use Rattle.std.proofs.Common.{◌≡◌, ℕ, ◌<◌, ◌≤◌, min, Bool, true, false, cond, ◌&&◌, eqb, ◌⊎◌, List, [], ◌∷◌, ◌++◌, length, is_some, Some, None, Option, sym, refl, ap, ◌∙◌, subst, inl, inr, ⊎_elim, arith}
 use Rattle.std.specs.List.{slice_get}
-use Rattle.std.proofs.lemmas.Bool.{and_from, eq-eqb, ltb-true, ltb-false, lt-ltb, le-ltb, cases_Bool, cond_both, cond-true, cond-false}
+use Rattle.std.proofs.lemmas.Bool.{and_from, eq-eqb, le-ltb, cases_Bool, cond-true, cond-false}
 use Rattle.std.proofs.lemmas.Bool.Decides.{nat_tests}
 use Rattle.records.specs.declared.id.Id.{Id}
 use Rattle.slots.specs.declared.slab.Slot.{Slot}
-use Rattle.slots.specs.Slots.{Slots, id_of, id_again, id_at, id_in, id_of_value, found, next_id, inserted, replaced, removed}
-use Rattle.slots.specs.Events.{Event, Event.insert, Event.set as put, Event.remove, Reached, Reached.begins, Reached.inserts, Reached.sets, Reached.removes, same_id, standing, given, removals, freed, touched, came, left, due, due_from}
-use Rattle.slots.specs.Laws.{Among, Apart, Links, entries, Lawful, SlabLaws}
+use Rattle.slots.specs.Slots.{Slots, id_of, id_again, id_at, found, next_id, inserted, replaced, removed}
+use Rattle.slots.specs.Events.{Event, Event.insert, Event.set as put, Event.remove, Reached, Reached.begins, Reached.inserts, Reached.sets, Reached.removes, same_id, given, removals, freed, touched, due_from}
+use Rattle.slots.specs.Laws.{Among, Lawful, SlabLaws}
 use Rattle.tables.proofs.Lists.{nth_there}
-use Rattle.slots.proofs.Finds.{made, Held, held, finds}
-use Rattle.slots.proofs.Chains.{Free, Chain, Chain.none, Chain.more, chain_at, chain_apart, chain_links, entries_few, entries_some}
-use Rattle.slots.proofs.Kept.{Kept, taken, spent, Old, Retired, begun}
+use Rattle.slots.proofs.Finds.{made, Held, held}
+use Rattle.slots.proofs.Chains.{Chain, Chain.none, Chain.more, chain_at, chain_apart, chain_links, entries_few, entries_some}
+use Rattle.slots.proofs.Kept.{Kept, taken, spent, begun}
 use Rattle.slots.proofs.Insertion.{kept_insert}
 use Rattle.slots.proofs.Live.{kept_set}
 use Rattle.slots.proofs.Removal.{kept_remove}

@@ -6,7 +6,7 @@ use Rattle.std.proofs.lemmas.Bool.{and_parts, eqb-true, eq-eqb, ne_eqb, cases_eq
 use Rattle.records.specs.declared.id.Id.{Id}
 use Rattle.slots.specs.declared.slab.Slot.{Slot}
 use Rattle.slots.specs.Slots.{Slots, found, with_len, removed, removed_if, vacated_to, empty}
-use Rattle.slots.specs.Events.{Event, Event.remove, same_id, standing, given, removals, freed, left}
+use Rattle.slots.specs.Events.{Event, Event.remove, same_id, standing, given, removals, freed}
 use Rattle.slots.specs.Laws.{Among, one_if_some}
 use Rattle.tables.proofs.Lists.{nth_set_same, nth_set_other}
 use Rattle.slots.proofs.Finds.{made, Held, found_out}

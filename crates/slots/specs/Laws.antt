@@ -1,10 +1,10 @@
 -- What holds of every slab, over every sequence of its calls.
-use Rattle.std.specs.Prelude.{◌≡◌, ℕ, ◌+◌, ◌<◌, ◌≤◌, min, Bool, true, false, ◌⊎◌, List, [], ◌∷◌, ◌++◌, length, take, is_some, Some, None, Option, ◌≢◌}
+use Rattle.std.specs.Prelude.{◌≡◌, ℕ, ◌+◌, ◌<◌, ◌≤◌, min, true, false, ◌⊎◌, List, [], ◌∷◌, ◌++◌, length, take, is_some, Some, None, Option, ◌≢◌}
 use Rattle.std.specs.List.{slice_get}
 use Rattle.records.specs.declared.id.Id.{Id}
 use Rattle.slots.specs.declared.slab.Slot.{Slot}
 use Rattle.slots.specs.Slots.{Slots, found, next_id, id_at}
-use Rattle.slots.specs.Events.{Event, Event.insert, Event.set, Event.remove, Reached, standing, given, removals, freed, touched, came, left, due}
+use Rattle.slots.specs.Events.{Event, Event.remove, Reached, standing, given, freed, touched, came, left, due}
 
 abbrev pub Among : ℕ → List ℕ → Type 0
 Among i [] = ⊥

@@ -1,5 +1,6 @@
 //! Generational slots over memory that the caller lends.
 #![tactic(auto)]
+
 pub mod entries;
 pub mod laws;
 pub mod slab;
