@@ -1,5 +1,6 @@
 //! The ledger that keeps a mark for each write: 256 a file.
 #![tactic(auto)]
+
 pub mod mark;
 pub mod marks;
 

@@ -1,5 +1,6 @@
 //! Plays a short list of list, slab and ledger calls and prints their answers; with the word `bench` it measures their cost.
 #![tactic(auto)]
+
 mod bench;
 mod ledgers;
 mod lists;
