@@ -18,7 +18,7 @@ fn play_all(rt: &HostRuntime, text: &str) -> Result<(), Fault> {
     }
 }
 
-// A main that fails says nothing by itself.
+// The error that main ends with does not name the file.
 fn read_file(rt: &HostRuntime, name: &str) -> io::Result<String> {
     let text = fs::read_to_string(rt, name);
     if let Err(e) = &text {
