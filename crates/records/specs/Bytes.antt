@@ -1,6 +1,17 @@
 -- The 64 bytes of a submission, offset by offset: the kernel's struct io_uring_sqe, little-endian.
 use Rattle.std.specs.Prelude.{ℕ, ◌/◌, ◌%◌, List, [], ◌∷◌, ◌++◌, slice_index}
+use Rattle.records.specs.declared.submission.Opcode.{Opcode}
+use Rattle.records.specs.declared.submission.Opcode.TheVariants.{Writev, Fsync, Read, Write, Send, Recv}
 use Rattle.records.specs.declared.submission.Submission.{Submission}
+
+-- the kernel's numbers of operations (io_uring_enter(2), IORING_OP_*)
+abbrev pub opcode_number : Opcode → ℕ
+opcode_number Writev = 2
+opcode_number Fsync = 3
+opcode_number Read = 22
+opcode_number Write = 23
+opcode_number Send = 26
+opcode_number Recv = 27
 
 -- a 32-bit field, the lowest byte first
 abbrev pub four : ℕ → List ℕ

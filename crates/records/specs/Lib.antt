@@ -6,4 +6,5 @@ pub mod Modes
 pub mod States
 pub mod Sums
 pub mod Tokens
+pub mod Words
 pub mod Writes

@@ -1,6 +1,9 @@
 //! Memory that a request names, and the limits of a place.
-ghost use Rattle.std.specs.Prelude.{◌≡◌};
+ghost use Rattle.std.specs.Prelude.{◌≡◌, Some};
 ghost use Rattle.records.specs.Limits.{below_top, few_bytes, buffer_limits, row_limits, descriptor_limits};
+ghost use Rattle.records.specs.Words.{buffer_text};
+
+use std::fmt;
 
 /// A place in the caller's memory with its capacity, and how much of it counts.
 #[derive(Clone, Copy)]
@@ -50,6 +53,22 @@ impl Buffer {
         ensures { result ≡ buffer_limits self }
     {
         self.length <= self.capacity && ends_below_top(self.place, self.capacity)
+    }
+}
+
+impl fmt::Display for Buffer {
+    ghost output = { λ buffer. Some (buffer_text buffer) };
+
+    fn fmt<W: fmt::Write>(&self, f: &mut fmt::Formatter<W>) -> fmt::Result {
+        let Buffer {
+            place,
+            capacity,
+            length,
+        } = *self;
+        write!(
+            f,
+            "buffer place {place} capacity {capacity} length {length}"
+        )
     }
 }
 

@@ -1,6 +1,9 @@
 //! Why a call is refused.
-ghost use Rattle.std.specs.Prelude.{◌≡◌};
+ghost use Rattle.std.specs.Prelude.{◌≡◌, Some};
 ghost use Rattle.records.specs.Answers.{denial_number, denial_value};
+ghost use Rattle.records.specs.Words.{denial_text};
+
+use std::fmt;
 
 /// The cause of a refusal. Where several hold, the smallest number counts.
 #[derive(Clone, Copy)]
@@ -24,6 +27,7 @@ pub enum Denial {
 }
 
 impl Denial {
+    // No `From`: a number alone would lose the value beside it.
     pub fn number(self) -> u32
         ensures { result ≡ denial_number self }
     {
@@ -53,6 +57,29 @@ impl Denial {
             Denial::CompletionMisfit { largest } => Some(largest),
             Denial::ListTooShort { needed } => Some(needed),
             _ => None,
+        }
+    }
+}
+
+impl fmt::Display for Denial {
+    ghost output = { λ denial. Some (denial_text denial) };
+
+    fn fmt<W: fmt::Write>(&self, f: &mut fmt::Formatter<W>) -> fmt::Result {
+        match self {
+            Denial::FileNotLive => f.write_str("file not live"),
+            Denial::LimitBroken => f.write_str("limit broken"),
+            Denial::UnfitForDirect => f.write_str("unfit for direct reading"),
+            Denial::WrongObserver => f.write_str("wrong observer"),
+            Denial::NoFreeSlot => f.write_str("no free slot"),
+            Denial::NoSuchWaiter => f.write_str("no such waiter"),
+            Denial::InFlight => f.write_str("in flight"),
+            Denial::CancelGranted => f.write_str("cancel granted"),
+            Denial::SettledOtherwise => f.write_str("settled otherwise"),
+            Denial::PermitConflict => f.write_str("permit conflict"),
+            Denial::UnknownToken => f.write_str("unknown token"),
+            Denial::CompletionMisfit { largest } => write!(f, "at most {largest}"),
+            Denial::FileInUse => f.write_str("file in use"),
+            Denial::ListTooShort { needed } => write!(f, "list too short, {needed} places needed"),
         }
     }
 }

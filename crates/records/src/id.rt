@@ -1,6 +1,9 @@
 //! Identities of slots, and the token that a submission carries.
-ghost use Rattle.std.specs.Prelude.{◌≡◌};
+ghost use Rattle.std.specs.Prelude.{◌≡◌, Some};
 ghost use Rattle.records.specs.Tokens.{token, token_index, token_generation};
+ghost use Rattle.records.specs.Words.{file_text};
+
+use std::fmt;
 
 /// Handle to a slot: it stops resolving once its slot is removed.
 #[derive(Clone, Copy)]
@@ -34,5 +37,14 @@ impl WaiterId {
             (user_data % 4294967296) as u32,
             (user_data / 4294967296) as u32,
         )
+    }
+}
+
+impl fmt::Display for FileId {
+    ghost output = { λ file. Some (file_text file) };
+
+    fn fmt<W: fmt::Write>(&self, f: &mut fmt::Formatter<W>) -> fmt::Result {
+        let FileId(id) = *self;
+        write!(f, "file {} {}", id.index, id.generation)
     }
 }

@@ -43,12 +43,12 @@ pub enum WriteAtState {
     Syncing,
 }
 
-impl WriteMode {
-    /// Where a write made so begins.
-    pub fn start(self) -> WriteAtState
-        ensures { result ≡ started self }
-    {
-        match self {
+/// Where a write made so begins.
+impl From<WriteMode> for WriteAtState {
+    ghost from_gives = { λ mode state. state ≡ started mode };
+
+    fn from(mode: WriteMode) -> WriteAtState {
+        match mode {
             WriteMode::Writing => WriteAtState::Writing,
             WriteMode::WritingSync => WriteAtState::WritingSync,
             WriteMode::WritingBeforeSync => WriteAtState::WritingBeforeSync,

@@ -1,11 +1,14 @@
 //! How a request ends, and what the calls on a completion or an observation answer.
-ghost use Rattle.std.specs.Prelude.{◌≡◌};
+ghost use Rattle.std.specs.Prelude.{◌≡◌, Some};
 ghost use Rattle.records.specs.Answers.{outcome_number, outcome_code, outcome_limits, completion_number, completion_waiter, completion_result, observation_number, observation_output};
+ghost use Rattle.records.specs.Words.{outcome_text};
 
 use crate::id::WaiterId;
 use crate::output::RequestOutput;
+use std::fmt;
 
 /// The result of a request.
+// Not a `Result<(), E>`: it is stored and told, never passed on by `?`, and its number, limits and words are its own.
 #[derive(Clone, Copy)]
 pub enum Outcome {
     Ok,
@@ -57,6 +60,25 @@ impl Outcome {
         match self {
             Outcome::Io { code } => code >= 1 && code <= 4095,
             _ => true,
+        }
+    }
+}
+
+impl fmt::Display for Outcome {
+    ghost output = { λ outcome. Some (outcome_text outcome) };
+
+    fn fmt<W: fmt::Write>(&self, f: &mut fmt::Formatter<W>) -> fmt::Result {
+        match self {
+            Outcome::Ok => f.write_str("ok"),
+            Outcome::Timeout => f.write_str("timeout"),
+            Outcome::SendFailed => f.write_str("send-failed"),
+            Outcome::RecvFailed => f.write_str("recv-failed"),
+            Outcome::ReadFailed => f.write_str("read-failed"),
+            Outcome::WriteFailed => f.write_str("write-failed"),
+            Outcome::BlobInsufficientLength => f.write_str("short-blob"),
+            Outcome::Closed => f.write_str("closed"),
+            Outcome::Io { code } => write!(f, "io {code}"),
+            Outcome::LedgerSpent => f.write_str("ledger-spent"),
         }
     }
 }

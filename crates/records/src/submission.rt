@@ -1,6 +1,25 @@
 //! A submission, and the 64 bytes that the kernel reads.
 ghost use Rattle.std.specs.Prelude.{◌≡◌};
-ghost use Rattle.records.specs.Bytes.{laid_out, in_place};
+ghost use Rattle.records.specs.Bytes.{laid_out, in_place, opcode_number};
+
+/// The operations that are asked for, with the kernel's numbers.
+#[derive(Clone, Copy)]
+pub enum Opcode {
+    Writev = 2,
+    Fsync = 3,
+    Read = 22,
+    Write = 23,
+    Send = 26,
+    Recv = 27,
+}
+
+impl From<Opcode> for u8 {
+    ghost from_gives = { λ opcode number. number ≡ opcode_number opcode };
+
+    fn from(opcode: Opcode) -> u8 {
+        opcode as u8
+    }
+}
 
 /// What the kernel is asked to do next. Neither copied nor let go: the call that writes its bytes spends it.
 pub struct Submission {

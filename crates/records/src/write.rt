@@ -1,6 +1,9 @@
 //! What a send or a write moves, and how far it has come.
-ghost use Rattle.std.specs.Prelude.{◌≡◌};
+ghost use Rattle.std.specs.Prelude.{◌≡◌, Some};
 ghost use Rattle.records.specs.Writes.{write_length, write_done, write_left};
+ghost use Rattle.records.specs.Words.{write_text};
+
+use std::fmt;
 
 /// Bytes that a send or a write is asked to move.
 #[derive(Clone, Copy)]
@@ -70,5 +73,24 @@ impl WriteBuffers {
         ensures { result ≡ write_left self }
     {
         self.length().saturating_sub(self.done())
+    }
+}
+
+impl fmt::Display for WriteBuffers {
+    ghost output = { λ write. Some (write_text write) };
+
+    fn fmt<W: fmt::Write>(&self, f: &mut fmt::Formatter<W>) -> fmt::Result {
+        match self {
+            WriteBuffers::Single(q) => write!(
+                f,
+                "single place {} length {} done {}",
+                q.place, q.length, q.done
+            ),
+            WriteBuffers::Rows(q) => write!(
+                f,
+                "rows first {} count {} at row {} within {} done {} of {}",
+                q.first, q.count, q.cursor.row, q.cursor.within, q.done, q.length
+            ),
+        }
     }
 }
