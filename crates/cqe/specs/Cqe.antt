@@ -16,7 +16,7 @@ use Rattle.cqe.specs.declared.step.Step.{Step}
 use Rattle.cqe.specs.Classes.{classified}
 use Rattle.cqe.specs.Steps.{stepped, settled}
 use Rattle.cqe.specs.Reads.{recv_step, read_step}
-use Rattle.cqe.specs.Writes.{send_step, write_step, sync_verdict}
+use Rattle.cqe.specs.Writes.{send_step, write_step, sync_outcome}
 
 abbrev pub syncs_in : WriteAtState → Bool
 syncs_in Writing = false
@@ -48,7 +48,7 @@ reacted table (request.Send q) k = send_step table q k
 reacted table (request.Recv q) k = recv_step q k
 reacted table (request.ReadAt q) k = read_step q k
 reacted table (request.WriteAt q) k = write_step table q k
-reacted table (request.Sync q) k = stepped (request.Sync q) (sync_verdict k)
+reacted table (request.Sync q) k = stepped (request.Sync q) (sync_outcome k)
 
 -- a result below every error code fits no more than a count of more bytes than were asked for
 abbrev pub read_as : List ChunkRow → Request → (cancelled : Bool) → Option CqeResult → Result Step Denial

@@ -12,19 +12,18 @@ use Rattle.request.specs.declared.kinds.Request.TheVariants.{Recv, ReadAt}
 use Rattle.cqe.specs.declared.result.CqeResult.{CqeResult}
 use Rattle.cqe.specs.declared.result.CqeResult.TheVariants.{Retry, Cancelled, Error, Zero, Count}
 use Rattle.cqe.specs.declared.step.Step.{Step}
-use Rattle.cqe.specs.declared.step.Verdict.TheVariants.{GoesOn, Ends}
-use Rattle.cqe.specs.Steps.{stepped, unhinted}
+use Rattle.cqe.specs.Steps.{stepped, unhinted, goes_on, ends}
 
 abbrev pub received_more : RecvRequest → ℕ → RecvRequest
 received_more q n = record { descriptor = q.descriptor; buffer = q.buffer; length = q.length; received = plus q.received n; exact = q.exact }
 
 -- recv(2): no bytes are the end of the stream
 abbrev pub recv_step : RecvRequest → CqeResult → Step
-recv_step q Retry = stepped (Recv q) GoesOn
-recv_step q Cancelled = stepped (Recv q) (Ends Timeout)
-recv_step q (Error code) = stepped (Recv q) (Ends RecvFailed)
-recv_step q Zero = stepped (Recv q) (Ends RecvFailed)
-recv_step q (Count n) = stepped (Recv (received_more q n)) (cond (q.exact && nat_lt (plus q.received n) q.length) GoesOn (Ends Ok))
+recv_step q Retry = goes_on (Recv q)
+recv_step q Cancelled = ends (Recv q) Timeout
+recv_step q (Error code) = ends (Recv q) RecvFailed
+recv_step q Zero = ends (Recv q) RecvFailed
+recv_step q (Count n) = stepped (Recv (received_more q n)) (cond (q.exact && nat_lt (plus q.received n) q.length) None (Some Ok))
 
 -- the part of a superset's buffer that holds the range
 abbrev pub narrowed : Buffer → Direct → Buffer
@@ -46,34 +45,34 @@ without_hint q = record { file = q.file; offset = q.offset; read = q.read; buffe
 -- the range is covered, or whole pages came, or direct reading is given up
 abbrev pub direct_count : ReadAtRequest → Direct → ℕ → Step
 direct_count q d n =
-    cond (nat_le (plus d.skip d.length) (plus q.read n)) (stepped (ReadAt (read_whole q d n)) (Ends Ok))
-    (cond (n % 4096 == 0) (stepped (ReadAt (read_more q n)) GoesOn)
-    (stepped (ReadAt (given_up q d)) GoesOn))
+    cond (nat_le (plus d.skip d.length) (plus q.read n)) (ends (ReadAt (read_whole q d n)) Ok)
+    (cond (n % 4096 == 0) (goes_on (ReadAt (read_more q n)))
+    (goes_on (ReadAt (given_up q d))))
 
 -- a cancellation ends a direct read, granted or not; any other error gives direct reading up
 abbrev pub direct_error : ReadAtRequest → Direct → ℕ → Step
-direct_error q d code = cond (code == 125) (stepped (ReadAt q) (Ends ReadFailed)) (stepped (ReadAt (given_up q d)) GoesOn)
+direct_error q d code = cond (code == 125) (ends (ReadAt q) ReadFailed) (goes_on (ReadAt (given_up q d)))
 
 abbrev pub direct_step : ReadAtRequest → Direct → CqeResult → Step
-direct_step q d Retry = stepped (ReadAt q) GoesOn
-direct_step q d Cancelled = stepped (ReadAt q) (Ends ReadFailed)
+direct_step q d Retry = goes_on (ReadAt q)
+direct_step q d Cancelled = ends (ReadAt q) ReadFailed
 direct_step q d (Error code) = direct_error q d code
-direct_step q d Zero = stepped (ReadAt (given_up q d)) GoesOn
+direct_step q d Zero = goes_on (ReadAt (given_up q d))
 direct_step q d (Count n) = direct_count q d n
 
 abbrev pub buffered_count : ReadAtRequest → ℕ → Step
-buffered_count q n = stepped (ReadAt (read_more q n)) (cond (nat_lt (plus q.read n) q.buffer.length) GoesOn (Ends Ok))
+buffered_count q n = stepped (ReadAt (read_more q n)) (cond (nat_lt (plus q.read n) q.buffer.length) None (Some Ok))
 
 -- preadv2(2): EOPNOTSUPP, 95, says that an unknown flag was specified; the rule blames the hint, once
 abbrev pub buffered_error : ReadAtRequest → ℕ → Step
-buffered_error q code = cond (code == 95 && hinting q.cache) (unhinted (ReadAt (without_hint q))) (stepped (ReadAt q) (Ends ReadFailed))
+buffered_error q code = cond (code == 95 && hinting q.cache) (unhinted (ReadAt (without_hint q))) (ends (ReadAt q) ReadFailed)
 
 -- read(2): no bytes are the file's end
 abbrev pub buffered_step : ReadAtRequest → CqeResult → Step
-buffered_step q Retry = stepped (ReadAt q) GoesOn
-buffered_step q Cancelled = stepped (ReadAt q) (Ends ReadFailed)
+buffered_step q Retry = goes_on (ReadAt q)
+buffered_step q Cancelled = ends (ReadAt q) ReadFailed
 buffered_step q (Error code) = buffered_error q code
-buffered_step q Zero = stepped (ReadAt q) (Ends BlobInsufficientLength)
+buffered_step q Zero = ends (ReadAt q) BlobInsufficientLength
 buffered_step q (Count n) = buffered_count q n
 
 abbrev pub read_step_in : Option Direct → ReadAtRequest → CqeResult → Step

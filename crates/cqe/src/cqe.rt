@@ -4,7 +4,7 @@ ghost use Rattle.cqe.specs.Cqe.{on_cqe, largest, is_sync, fits, reacted};
 
 use crate::reads::{read_cqe, recv_cqe};
 use crate::result::{CqeResult, classify};
-use crate::step::{Step, settle};
+use crate::step::Step;
 use crate::writes::{send_cqe, sync_cqe, write_cqe};
 use records::{ChunkRow, Denial, WaiterState, WriteAtState};
 use request::Request;
@@ -54,7 +54,7 @@ pub(crate) fn react(request: Request, table: &[ChunkRow], res: CqeResult) -> Ste
         Request::Recv(q) => recv_cqe(q, res),
         Request::ReadAt(q) => read_cqe(q, res),
         Request::WriteAt(q) => write_cqe(table, q, res),
-        Request::Sync(q) => Step::to(Request::Sync(q), sync_cqe(res)),
+        Request::Sync(_) => sync_cqe(request, res),
     }
 }
 
@@ -71,11 +71,9 @@ pub fn on_cqe(
     let misfit = Denial::CompletionMisfit {
         largest: largest_result(request, table),
     };
-    let Some(res) = classify(res, cancelled, request.length() == 0) else {
-        return Err(misfit);
-    };
+    let res = classify(res, cancelled, request.length() == 0).ok_or(misfit)?;
     if !does_fit(request, table, res) {
         return Err(misfit);
     }
-    Ok(settle(react(request, table, res), cancelled))
+    Ok(react(request, table, res).settled(cancelled))
 }

@@ -9,4 +9,4 @@ pub mod writes;
 
 pub use cqe::{largest_result, on_cqe};
 pub use result::{CqeResult, classify};
-pub use step::{Step, Verdict};
+pub use step::Step;

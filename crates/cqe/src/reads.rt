@@ -1,9 +1,9 @@
 //! Completions of receives and reads.
 ghost use Rattle.std.specs.Prelude.{◌≡◌};
-ghost use Rattle.cqe.specs.Reads.{recv_step, narrowed, given_up, read_step, direct_count, direct_error, buffered_count, buffered_error};
+ghost use Rattle.cqe.specs.Reads.{recv_step, narrowed, given_up, read_step, direct_count, buffered_count};
 
-use crate::result::CqeResult;
-use crate::step::{Step, Verdict};
+use crate::result::{CqeResult, ECANCELED, EOPNOTSUPP};
+use crate::step::Step;
 use records::{Buffer, Cache, Outcome};
 use request::{Direct, ReadAtRequest, RecvRequest, Request};
 
@@ -11,19 +11,19 @@ pub(crate) fn recv_cqe(q: RecvRequest, res: CqeResult) -> Step
     ensures { result ≡ recv_step q res }
 {
     match (q.exact, res) {
-        (_, CqeResult::Retry) => Step::to(Request::Recv(q), Verdict::GoesOn),
-        (_, CqeResult::Cancelled) => Step::to(Request::Recv(q), Verdict::Ends(Outcome::Timeout)),
-        (_, CqeResult::Error { .. } | CqeResult::Zero) => Step::to(
+        (_, CqeResult::Retry) => Step::goes_on(Request::Recv(q)),
+        (_, CqeResult::Cancelled) => Step::ends(Request::Recv(q), Outcome::Timeout),
+        (_, CqeResult::Error { .. } | CqeResult::Zero) => Step::ends(
             Request::Recv(q),
-            Verdict::Ends(Outcome::RecvFailed),
+            Outcome::RecvFailed,
         ),
         (exact, CqeResult::Count { bytes }) => {
             let received = q.received.saturating_add(bytes as u64);
             let moved = Request::Recv(RecvRequest { received, ..q });
             if exact && received < q.length {
-                return Step::to(moved, Verdict::GoesOn);
+                return Step::goes_on(moved);
             }
-            Step::to(moved, Verdict::Ends(Outcome::Ok))
+            Step::ends(moved, Outcome::Ok)
         }
     }
 }
@@ -63,15 +63,12 @@ pub(crate) fn count_direct(q: ReadAtRequest, direct: Direct, bytes: u32) -> Step
             buffer: narrow(q.buffer, direct),
             ..q
         };
-        return Step::to(Request::ReadAt(whole), Verdict::Ends(Outcome::Ok));
+        return Step::ends(Request::ReadAt(whole), Outcome::Ok);
     }
     if bytes % 4096 == 0 {
-        return Step::to(
-            Request::ReadAt(ReadAtRequest { read, ..q }),
-            Verdict::GoesOn,
-        );
+        return Step::goes_on(Request::ReadAt(ReadAtRequest { read, ..q }));
     }
-    Step::to(Request::ReadAt(give_up_direct(q, direct)), Verdict::GoesOn)
+    Step::goes_on(Request::ReadAt(give_up_direct(q, direct)))
 }
 
 pub(crate) fn count_buffered(q: ReadAtRequest, bytes: u32) -> Step
@@ -80,37 +77,9 @@ pub(crate) fn count_buffered(q: ReadAtRequest, bytes: u32) -> Step
     let read = q.read.saturating_add(bytes as u64);
     let moved = Request::ReadAt(ReadAtRequest { read, ..q });
     if read < q.buffer.length {
-        return Step::to(moved, Verdict::GoesOn);
+        return Step::goes_on(moved);
     }
-    Step::to(moved, Verdict::Ends(Outcome::Ok))
-}
-
-// A cancellation ends a direct read; another error gives direct reading up.
-pub(crate) fn fail_direct(q: ReadAtRequest, direct: Direct, code: u32) -> Step
-    ensures { result ≡ direct_error q direct code }
-{
-    if code == 125 {
-        return Step::to(Request::ReadAt(q), Verdict::Ends(Outcome::ReadFailed));
-    }
-    Step::to(Request::ReadAt(give_up_direct(q, direct)), Verdict::GoesOn)
-}
-
-// A refused hint is dropped, here and in the file.
-pub(crate) fn fail_buffered(q: ReadAtRequest, code: u32) -> Step
-    ensures { result ≡ buffered_error q code }
-{
-    if code == 95 && q.cache.hints() {
-        let plain = ReadAtRequest {
-            cache: Cache::Enabled,
-            ..q
-        };
-        return Step {
-            request: Request::ReadAt(plain),
-            verdict: Verdict::GoesOn,
-            unsupported: true,
-        };
-    }
-    Step::to(Request::ReadAt(q), Verdict::Ends(Outcome::ReadFailed))
+    Step::ends(moved, Outcome::Ok)
 }
 
 pub(crate) fn read_cqe(q: ReadAtRequest, res: CqeResult) -> Step
@@ -118,16 +87,24 @@ pub(crate) fn read_cqe(q: ReadAtRequest, res: CqeResult) -> Step
 {
     let same = Request::ReadAt(q);
     match (q.direct, res) {
-        (_, CqeResult::Retry) => Step::to(same, Verdict::GoesOn),
-        (_, CqeResult::Cancelled) => Step::to(same, Verdict::Ends(Outcome::ReadFailed)),
-        (Some(direct), CqeResult::Error { code }) => fail_direct(q, direct, code),
-        (Some(direct), CqeResult::Zero) => Step::to(
-            Request::ReadAt(give_up_direct(q, direct)),
-            Verdict::GoesOn,
-        ),
+        (_, CqeResult::Retry) => Step::goes_on(same),
+        (_, CqeResult::Cancelled) => Step::ends(same, Outcome::ReadFailed),
+        // A cancellation ends a direct read; another error gives direct reading up.
+        (Some(direct), CqeResult::Error { code }) => match code {
+            ECANCELED => Step::ends(same, Outcome::ReadFailed),
+            _ => Step::goes_on(Request::ReadAt(give_up_direct(q, direct))),
+        },
+        (Some(direct), CqeResult::Zero) => Step::goes_on(Request::ReadAt(give_up_direct(
+            q, direct,
+        ))),
         (Some(direct), CqeResult::Count { bytes }) => count_direct(q, direct, bytes),
-        (None, CqeResult::Error { code }) => fail_buffered(q, code),
-        (None, CqeResult::Zero) => Step::to(same, Verdict::Ends(Outcome::BlobInsufficientLength)),
+        // A refused hint is dropped, here and in the file.
+        (None, CqeResult::Error { code: EOPNOTSUPP }) if q.cache.hints() => {
+            let cache = Cache::Enabled;
+            Step::unhinted(Request::ReadAt(ReadAtRequest { cache, ..q }))
+        }
+        (None, CqeResult::Error { .. }) => Step::ends(same, Outcome::ReadFailed),
+        (None, CqeResult::Zero) => Step::ends(same, Outcome::BlobInsufficientLength),
         (None, CqeResult::Count { bytes }) => count_buffered(q, bytes),
     }
 }

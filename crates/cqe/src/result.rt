@@ -1,6 +1,20 @@
 //! The kernel's signed result, sorted into what a request looks at.
-ghost use Rattle.std.specs.Prelude.{◌≡◌};
+ghost use Rattle.std.specs.Prelude.{◌≡◌, Some};
 ghost use Rattle.cqe.specs.Classes.{classified};
+ghost use Rattle.cqe.specs.Words.{class_text};
+
+use std::fmt;
+
+const EINTR: u32 = 4;
+
+const EAGAIN: u32 = 11;
+
+pub(crate) const EOPNOTSUPP: u32 = 95;
+
+pub(crate) const ECANCELED: u32 = 125;
+
+/// The largest error code.
+const MAX_ERRNO: i32 = 4095;
 
 /// A completion's result as a request looks at it.
 #[derive(Clone, Copy)]
@@ -19,7 +33,7 @@ pub enum CqeResult {
 pub fn classify(res: i32, cancelled: bool, empty: bool) -> Option<CqeResult>
     ensures { result ≡ classified res cancelled empty }
 {
-    if res < -4095 {
+    if res < -MAX_ERRNO {
         return None;
     }
     if res >= 0 {
@@ -30,8 +44,22 @@ pub fn classify(res: i32, cancelled: bool, empty: bool) -> Option<CqeResult>
         return Some(CqeResult::Count { bytes });
     }
     match (-res) as u32 {
-        11 | 4 => Some(CqeResult::Retry),
-        125 if cancelled => Some(CqeResult::Cancelled),
+        EAGAIN | EINTR => Some(CqeResult::Retry),
+        ECANCELED if cancelled => Some(CqeResult::Cancelled),
         code => Some(CqeResult::Error { code }),
+    }
+}
+
+impl fmt::Display for CqeResult {
+    ghost output = { λ class. Some (class_text class) };
+
+    fn fmt<W: fmt::Write>(&self, f: &mut fmt::Formatter<W>) -> fmt::Result {
+        match self {
+            CqeResult::Retry => f.write_str("retry"),
+            CqeResult::Cancelled => f.write_str("cancelled"),
+            CqeResult::Error { code } => write!(f, "error {code}"),
+            CqeResult::Zero => f.write_str("zero"),
+            CqeResult::Count { bytes } => write!(f, "count {bytes}"),
+        }
     }
 }

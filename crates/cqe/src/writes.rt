@@ -1,9 +1,10 @@
 //! Completions of sends, writes and syncs.
 ghost use Rattle.std.specs.Prelude.{◌≡◌};
-ghost use Rattle.cqe.specs.Writes.{write_moved, send_step, write_step, write_count, bytes_error, sync_verdict};
+ghost use Rattle.cqe.specs.Writes.{write_moved, send_step, write_step, write_count, sync_outcome};
+ghost use Rattle.cqe.specs.Steps.{stepped};
 
-use crate::result::CqeResult;
-use crate::step::{Step, Verdict};
+use crate::result::{CqeResult, ECANCELED, EOPNOTSUPP};
+use crate::step::Step;
 use records::{Cache, ChunkRow, Outcome, RowsWrite, SingleWrite, WriteAtState, WriteBuffers};
 use request::{Request, SendRequest, WriteAtRequest};
 use rows::advance;
@@ -31,32 +32,32 @@ pub(crate) fn send_cqe(table: &[ChunkRow], q: SendRequest, res: CqeResult) -> St
     ensures { result ≡ send_step table.now q res }
 {
     match res {
-        CqeResult::Retry => Step::to(Request::Send(q), Verdict::GoesOn),
-        CqeResult::Cancelled => Step::to(Request::Send(q), Verdict::Ends(Outcome::Timeout)),
-        CqeResult::Error { .. } | CqeResult::Zero => Step::to(
+        CqeResult::Retry => Step::goes_on(Request::Send(q)),
+        CqeResult::Cancelled => Step::ends(Request::Send(q), Outcome::Timeout),
+        CqeResult::Error { .. } | CqeResult::Zero => Step::ends(
             Request::Send(q),
-            Verdict::Ends(Outcome::SendFailed),
+            Outcome::SendFailed,
         ),
         CqeResult::Count { bytes } => {
             let write = move_on(table, q.write, bytes);
             let moved = Request::Send(SendRequest { write, ..q });
             if write.remaining_len() > 0 {
-                return Step::to(moved, Verdict::GoesOn);
+                return Step::goes_on(moved);
             }
-            Step::to(moved, Verdict::Ends(Outcome::Ok))
+            Step::ends(moved, Outcome::Ok)
         }
     }
 }
 
 // A data sync's result, trailing or on its own.
-pub(crate) fn sync_cqe(res: CqeResult) -> Verdict
-    ensures { result ≡ sync_verdict res }
+pub(crate) fn sync_cqe(request: Request, res: CqeResult) -> Step
+    ensures { result ≡ stepped request (sync_outcome res) }
 {
     match res {
-        CqeResult::Retry => Verdict::GoesOn,
-        CqeResult::Cancelled => Verdict::Ends(Outcome::Io { code: 125 }),
-        CqeResult::Error { code } => Verdict::Ends(Outcome::Io { code }),
-        CqeResult::Zero | CqeResult::Count { .. } => Verdict::Ends(Outcome::Ok),
+        CqeResult::Retry => Step::goes_on(request),
+        CqeResult::Cancelled => Step::ends(request, Outcome::Io { code: ECANCELED }),
+        CqeResult::Error { code } => Step::ends(request, Outcome::Io { code }),
+        CqeResult::Zero | CqeResult::Count { .. } => Step::ends(request, Outcome::Ok),
     }
 }
 
@@ -65,10 +66,7 @@ pub(crate) fn count_written(table: &[ChunkRow], q: WriteAtRequest, bytes: u32) -
 {
     let write = move_on(table, q.write, bytes);
     if write.remaining_len() > 0 {
-        return Step::to(
-            Request::WriteAt(WriteAtRequest { write, ..q }),
-            Verdict::GoesOn,
-        );
+        return Step::goes_on(Request::WriteAt(WriteAtRequest { write, ..q }));
     }
     match q.state {
         WriteAtState::WritingBeforeSync => {
@@ -77,37 +75,12 @@ pub(crate) fn count_written(table: &[ChunkRow], q: WriteAtRequest, bytes: u32) -
                 state: WriteAtState::Syncing,
                 ..q
             };
-            Step::to(Request::WriteAt(owing), Verdict::GoesOn)
+            Step::goes_on(Request::WriteAt(owing))
         }
         WriteAtState::Writing | WriteAtState::WritingSync | WriteAtState::Syncing => {
-            Step::to(
-                Request::WriteAt(WriteAtRequest { write, ..q }),
-                Verdict::Ends(Outcome::Ok),
-            )
+            Step::ends(Request::WriteAt(WriteAtRequest { write, ..q }), Outcome::Ok)
         }
     }
-}
-
-// A refused hint is dropped, here and in the file; else the mode says what an error means.
-pub(crate) fn fail_written(q: WriteAtRequest, code: u32) -> Step
-    ensures { result ≡ bytes_error q code }
-{
-    if code == 95 && q.cache.hints() {
-        let plain = WriteAtRequest {
-            cache: Cache::Enabled,
-            ..q
-        };
-        return Step {
-            request: Request::WriteAt(plain),
-            verdict: Verdict::GoesOn,
-            unsupported: true,
-        };
-    }
-    let outcome = match q.state {
-        WriteAtState::WritingSync | WriteAtState::Syncing => Outcome::Io { code },
-        WriteAtState::Writing | WriteAtState::WritingBeforeSync => Outcome::WriteFailed,
-    };
-    Step::to(Request::WriteAt(q), Verdict::Ends(outcome))
 }
 
 pub(crate) fn write_cqe(table: &[ChunkRow], q: WriteAtRequest, res: CqeResult) -> Step
@@ -115,13 +88,20 @@ pub(crate) fn write_cqe(table: &[ChunkRow], q: WriteAtRequest, res: CqeResult) -
 {
     let same = Request::WriteAt(q);
     match (q.state, res) {
-        (WriteAtState::Syncing, res) => Step::to(same, sync_cqe(res)),
-        (_, CqeResult::Retry) => Step::to(same, Verdict::GoesOn),
-        (_, CqeResult::Error { code }) => fail_written(q, code),
-        (_, CqeResult::Cancelled | CqeResult::Zero) => Step::to(
+        (WriteAtState::Syncing, res) => sync_cqe(same, res),
+        (_, CqeResult::Retry) => Step::goes_on(same),
+        // A refused hint is dropped, here and in the file.
+        (_, CqeResult::Error { code: EOPNOTSUPP }) if q.cache.hints() => {
+            let cache = Cache::Enabled;
+            Step::unhinted(Request::WriteAt(WriteAtRequest { cache, ..q }))
+        }
+        (WriteAtState::WritingSync, CqeResult::Error { code }) => Step::ends(
             same,
-            Verdict::Ends(Outcome::WriteFailed),
+            Outcome::Io { code },
         ),
+        (_, CqeResult::Error { .. } | CqeResult::Cancelled | CqeResult::Zero) => {
+            Step::ends(same, Outcome::WriteFailed)
+        }
         (_, CqeResult::Count { bytes }) => count_written(table, q, bytes),
     }
 }

@@ -1,5 +1,5 @@
 -- The 64 bytes of a submission, offset by offset: the kernel's struct io_uring_sqe, little-endian.
-use Rattle.std.specs.Prelude.{ℕ, ◌/◌, ◌%◌, List, [], ◌∷◌, ◌++◌, slice_index}
+use Rattle.std.specs.Prelude.{ℕ, min, ◌/◌, ◌%◌, List, [], ◌∷◌, ◌++◌, slice_index}
 use Rattle.records.specs.declared.submission.Opcode.{Opcode}
 use Rattle.records.specs.declared.submission.Opcode.TheVariants.{Writev, Fsync, Read, Write, Send, Recv}
 use Rattle.records.specs.declared.submission.Submission.{Submission}
@@ -12,6 +12,10 @@ opcode_number Read = 22
 opcode_number Write = 23
 opcode_number Send = 26
 opcode_number Recv = 27
+
+-- a submission's length has 32 bits
+abbrev pub length_of_submission : ℕ → ℕ
+length_of_submission left = min left 4294967295
 
 -- a 32-bit field, the lowest byte first
 abbrev pub four : ℕ → List ℕ

@@ -1,6 +1,6 @@
 //! A submission, and the 64 bytes that the kernel reads.
 ghost use Rattle.std.specs.Prelude.{◌≡◌};
-ghost use Rattle.records.specs.Bytes.{laid_out, in_place, opcode_number};
+ghost use Rattle.records.specs.Bytes.{laid_out, in_place, opcode_number, length_of_submission};
 
 /// The operations that are asked for, with the kernel's numbers.
 #[derive(Clone, Copy)]
@@ -19,6 +19,13 @@ impl From<Opcode> for u8 {
     fn from(opcode: Opcode) -> u8 {
         opcode as u8
     }
+}
+
+/// The length of a submission that is to move what is left: it has 32 bits.
+pub fn submission_length(left: u64) -> u32
+    ensures { result ≡ length_of_submission left }
+{
+    left.min(4294967295) as u32
 }
 
 /// What the kernel is asked to do next. Neither copied nor let go: the call that writes its bytes spends it.

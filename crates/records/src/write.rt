@@ -1,8 +1,9 @@
 //! What a send or a write moves, and how far it has come.
 ghost use Rattle.std.specs.Prelude.{◌≡◌, Some};
-ghost use Rattle.records.specs.Writes.{write_length, write_done, write_left};
+ghost use Rattle.records.specs.Writes.{write_length, write_done, write_left, single_submitted};
 ghost use Rattle.records.specs.Words.{write_text};
 
+use crate::submission::submission_length;
 use std::fmt;
 
 /// Bytes that a send or a write is asked to move.
@@ -45,6 +46,15 @@ pub struct RowsWrite {
 pub enum WriteBuffers {
     Single(SingleWrite),
     Rows(RowsWrite),
+}
+
+impl SingleWrite {
+    /// The bytes that the next submission asks for.
+    pub fn bytes_submitted(self) -> u32
+        ensures { result ≡ single_submitted self }
+    {
+        submission_length(self.length.saturating_sub(self.done))
+    }
 }
 
 impl WriteBuffers {

@@ -1,3 +1,4 @@
 pub mod Admission
 pub mod Completing
 pub mod Progress
+pub mod Words

@@ -9,6 +9,7 @@ use Rattle.records.specs.Writes.{write_length}
 use Rattle.rows.specs.Vectors.{carried, iovecs_of, iovec_bytes}
 use Rattle.request.specs.declared.kinds.Direct.{Direct}
 use Rattle.request.specs.declared.kinds.ReadAtRequest.{ReadAtRequest}
+use Rattle.request.specs.declared.kinds.RecvRequest.{RecvRequest}
 use Rattle.request.specs.declared.kinds.Request.{Request}
 use Rattle.request.specs.declared.kinds.Request.TheVariants as request
 
@@ -38,6 +39,9 @@ most_of_read (Some d) = 2147479552
 abbrev pub read_submitted : ReadAtRequest → ℕ
 read_submitted q = min (q.buffer.length - q.read) (most_of_read q.direct)
 
+abbrev pub recv_submitted : RecvRequest → ℕ
+recv_submitted q = min (q.length - q.received) 4294967295
+
 abbrev pub written_in : WriteAtState → ℕ → ℕ
 written_in Writing n = n
 written_in WritingSync n = n
@@ -47,7 +51,7 @@ written_in Syncing n = 0
 -- the bytes that the next submission asks for; a sync asks for none
 abbrev pub bytes_submitted : List ChunkRow → Request → ℕ
 bytes_submitted table (request.Send q) = write_submitted table q.write
-bytes_submitted table (request.Recv q) = min (q.length - q.received) 4294967295
+bytes_submitted table (request.Recv q) = recv_submitted q
 bytes_submitted table (request.ReadAt q) = read_submitted q
 bytes_submitted table (request.WriteAt q) = written_in q.state (write_submitted table q.write)
 bytes_submitted table (request.Sync q) = 0

@@ -33,9 +33,7 @@ pub(crate) fn begin_write(table: &[ChunkRow], source: Source) -> Option<WriteBuf
             }))
         }
         Source::Rows { first, count } => {
-            let Some(length) = rows_total(table, first, count) else {
-                return None;
-            };
+            let length = rows_total(table, first, count)?;
             let cursor = Cursor { row: 0, within: 0 };
             Some(WriteBuffers::Rows(RowsWrite {
                 first,
@@ -80,9 +78,7 @@ pub(crate) fn admit_send(
     if !is_descriptor(descriptor) {
         return Err(Denial::LimitBroken);
     }
-    let Some(write) = begin_write(table, source) else {
-        return Err(Denial::LimitBroken);
-    };
+    let write = begin_write(table, source).ok_or(Denial::LimitBroken)?;
     Ok(Request::Send(SendRequest { descriptor, write }))
 }
 
@@ -184,9 +180,7 @@ pub(crate) fn admit_write(
 ) -> Result<Request, Denial>
     ensures { result ≡ write_begun file offset mode cache (begun table.now source) }
 {
-    let Some(write) = begin_write(table, source) else {
-        return Err(Denial::LimitBroken);
-    };
+    let write = begin_write(table, source).ok_or(Denial::LimitBroken)?;
     if !is_file_range(offset, write.length()) {
         return Err(Denial::LimitBroken);
     }
@@ -194,7 +188,7 @@ pub(crate) fn admit_write(
         file,
         offset,
         write,
-        state: mode.start(),
+        state: mode.into(),
         cache,
     }))
 }

@@ -5,6 +5,7 @@ pub mod admission;
 pub mod complete;
 pub mod kinds;
 pub mod progress;
+pub mod words;
 
 pub use kinds::{
     Direct, ReadAtRequest, RecvRequest, Request, SendRequest, SyncRequest, Wanted, WriteAtRequest,

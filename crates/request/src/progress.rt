@@ -1,13 +1,10 @@
 //! How much a request moves, and how much its next submission asks for.
 ghost use Rattle.std.specs.Prelude.{◌≡◌};
-ghost use Rattle.request.specs.Progress.{bytes_to_move, bytes_submitted, write_submitted, read_submitted};
+ghost use Rattle.request.specs.Progress.{bytes_to_move, bytes_submitted, write_submitted, range_of_read, recv_submitted, read_submitted};
 
-use crate::kinds::{ReadAtRequest, Request};
-use records::{ChunkRow, WriteAtState, WriteBuffers};
+use crate::kinds::{ReadAtRequest, RecvRequest, Request};
+use records::{ChunkRow, WriteAtState, WriteBuffers, submission_length};
 use rows::carried_bytes;
-
-/// The length of a submission is 32 bits.
-const MOST_SUBMITTED: u64 = 4294967295;
 
 /// What the kernel moves at once, in whole pages.
 const DIRECT_CHUNK: u64 = 2147479552;
@@ -17,22 +14,40 @@ pub(crate) fn submitted_of_write(table: &[ChunkRow], write: WriteBuffers) -> u64
     ensures { result ≡ write_submitted table.now write }
 {
     match write {
-        WriteBuffers::Single(single) => single
-            .length
-            .saturating_sub(single.done)
-            .min(MOST_SUBMITTED),
+        WriteBuffers::Single(single) => single.bytes_submitted().into(),
         WriteBuffers::Rows(rows) => carried_bytes(table, rows.first, rows.count, rows.cursor),
     }
 }
 
-// The bytes that the next submission of a read asks for.
-pub(crate) fn submitted_of_read(q: ReadAtRequest) -> u64
-    ensures { result ≡ read_submitted q }
-{
-    let left = q.buffer.length.saturating_sub(q.read);
-    match q.direct {
-        Some(_) => left.min(DIRECT_CHUNK),
-        None => left.min(MOST_SUBMITTED),
+impl RecvRequest {
+    /// The bytes that the next submission asks for.
+    pub fn bytes_submitted(self) -> u32
+        ensures { result ≡ recv_submitted self }
+    {
+        submission_length(self.length.saturating_sub(self.received))
+    }
+}
+
+impl ReadAtRequest {
+    /// The bytes to move in all: of a direct read the range, not its superset.
+    pub fn length(self) -> u64
+        ensures { result ≡ range_of_read self.buffer.length self.direct }
+    {
+        match self.direct {
+            Some(direct) => direct.length,
+            None => self.buffer.length,
+        }
+    }
+
+    /// The bytes that the next submission asks for.
+    pub fn bytes_submitted(self) -> u32
+        ensures { result ≡ read_submitted self }
+    {
+        let left = self.buffer.length.saturating_sub(self.read);
+        match self.direct {
+            Some(_) => left.min(DIRECT_CHUNK) as u32,
+            None => submission_length(left),
+        }
     }
 }
 
@@ -44,10 +59,7 @@ impl Request {
         match self {
             Request::Send(q) => q.write.length(),
             Request::Recv(q) => q.length,
-            Request::ReadAt(q) => match q.direct {
-                Some(direct) => direct.length,
-                None => q.buffer.length,
-            },
+            Request::ReadAt(q) => q.length(),
             Request::WriteAt(q) => q.write.length(),
             Request::Sync(_) => 0,
         }
@@ -59,8 +71,8 @@ impl Request {
     {
         match self {
             Request::Send(q) => submitted_of_write(table, q.write),
-            Request::Recv(q) => q.length.saturating_sub(q.received).min(MOST_SUBMITTED),
-            Request::ReadAt(q) => submitted_of_read(q),
+            Request::Recv(q) => q.bytes_submitted().into(),
+            Request::ReadAt(q) => q.bytes_submitted().into(),
             Request::WriteAt(q) => match q.state {
                 WriteAtState::Syncing => 0,
                 WriteAtState::Writing

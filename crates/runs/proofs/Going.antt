@@ -1,5 +1,5 @@
 -- What holds of a request while its transfer goes on, and of how it ends.
-use Rattle.std.proofs.Common.{◌≡◌, ℕ, ◌+◌, ◌-◌, ◌*◌, ◌/◌, ◌%◌, ◌<◌, ◌≤◌, Bool, true, false, ◌⊎◌, List, Some, None, sym, ap, ◌∙◌, inl, inr, arith}
+use Rattle.std.proofs.Common.{◌≡◌, ℕ, ◌+◌, ◌-◌, ◌*◌, ◌/◌, ◌%◌, ◌<◌, ◌≤◌, Bool, true, false, ◌⊎◌, List, Some, None, sym, ap, ◌∙◌, inl, inr, arith, Option}
 use Rattle.records.specs.declared.buffer.Buffer.{Buffer}
 use Rattle.records.specs.declared.buffer.ChunkRow.{ChunkRow}
 use Rattle.records.specs.declared.id.FileId.{FileId}
@@ -18,8 +18,6 @@ use Rattle.request.specs.declared.kinds.Request.TheVariants as request
 use Rattle.request.specs.declared.kinds.Wanted.{Wanted}
 use Rattle.request.specs.declared.kinds.Wanted.TheVariants as wanted
 use Rattle.request.specs.Completing.{ended_well}
-use Rattle.cqe.specs.declared.step.Verdict.{Verdict}
-use Rattle.cqe.specs.declared.step.Verdict.TheVariants.{GoesOn, Ends}
 use Rattle.runs.specs.Notions.{Tried, Tried.directly, Tried.plainly, source_bytes, bytes_wanted}
 use Rattle.runs.specs.Laws.{Within, Covers, SyncedIf, Means, most_completions}
 use Rattle.runs.proofs.Placing.{Placed, write_at}
@@ -109,9 +107,9 @@ Going table (wanted.DirectReadAt f d offset m place capacity) q t tk sy =
 Going table (wanted.WriteAt f offset s m cache) q t tk sy = (Writing table f offset s m q t tk sy × (sy ≡ false)) ⊎ Owing table f offset s m q t tk sy
 Going table (wanted.Sync f) q t tk sy = Unit {0}
 
-abbrev pub After : List ChunkRow → Wanted → Verdict → Request → Tried → ℕ → Bool → Type 0
-After table w GoesOn q t tk sy = Going table w q t tk sy
-After table w (Ends o) q t tk sy = (tk ≤ most_completions table w) × Within table w t × Means table w t sy o
+abbrev pub After : List ChunkRow → Wanted → Option Outcome → Request → Tried → ℕ → Bool → Type 0
+After table w None q t tk sy = Going table w q t tk sy
+After table w (Some o) q t tk sy = (tk ≤ most_completions table w) × Within table w t × Means table w t sy o
 
 pub not_ok : (o : Outcome) → ended_well o ≡ false → o ≡ outcome.Ok → ⊥
 not_ok o e k = let z : ◌≡◌ {A = Bool} true false = sym (ap ended_well k) ∙ e in let y : ◌≡◌ {A = ℕ} 0 1 = cc in omega arith
@@ -169,7 +167,7 @@ going_few table (wanted.Sync f) q t tk sy z g = absurd (omega arith)
 
 -- what ends where it would go on
 pub stopping : (table : List ChunkRow) (w : Wanted) (o : Outcome) (q : Request) (t : Tried) (tk : ℕ) (sy : Bool) → ended_well o ≡ false → 0 < bytes_wanted table w →
-    Going table w q t tk sy → After table w (Ends o) q t tk sy
+    Going table w q t tk sy → After table w (Some o) q t tk sy
 stopping table w o q t tk sy e z g = (going_few table w q t tk sy z g, going_within table w q t tk sy g, failing table w t sy o e (unfulfilled table w q t tk sy g))
 
 pub one_more : (table : List ChunkRow) (w : Wanted) (q : Request) (t : Tried) (tk : ℕ) (sy : Bool) → 0 < bytes_wanted table w → Going table w q t tk sy → 1 + tk ≤ most_completions table w
@@ -184,5 +182,5 @@ one_more table (wanted.Sync f) q t tk sy z g = absurd (omega arith)
 
 -- a completion that ends without Ok and reports nothing
 pub ends_badly : (table : List ChunkRow) (w : Wanted) (o : Outcome) (q : Request) (t : Tried) (tk : ℕ) (sy : Bool) → ended_well o ≡ false → 0 < bytes_wanted table w →
-    Going table w q t tk sy → After table w (Ends o) q t (1 + tk) sy
+    Going table w q t tk sy → After table w (Some o) q t (1 + tk) sy
 ends_badly table w o q t tk sy e z g = (one_more table w q t tk sy z g, going_within table w q t tk sy g, failing table w t sy o e (unfulfilled table w q t tk sy g))

@@ -4,6 +4,7 @@ use Rattle.std.proofs.lemmas.Bool.{ne_eqb, leb-true}
 use Rattle.records.specs.declared.buffer.ChunkRow.{ChunkRow}
 use Rattle.records.specs.declared.denial.Denial.{Denial}
 use Rattle.records.specs.declared.waiter.WaiterState.{WaiterState}
+use Rattle.records.specs.declared.outcome.Outcome.{Outcome}
 use Rattle.records.specs.States.{cancel_granted}
 use Rattle.request.specs.declared.kinds.Request.{Request}
 use Rattle.request.specs.declared.kinds.Wanted.{Wanted}
@@ -12,11 +13,9 @@ use Rattle.request.specs.Progress.{bytes_to_move, bytes_submitted}
 use Rattle.cqe.specs.declared.result.CqeResult.{CqeResult}
 use Rattle.cqe.specs.declared.result.CqeResult.TheVariants.{Retry, Cancelled, Error, Zero, Count}
 use Rattle.cqe.specs.declared.step.Step.{Step}
-use Rattle.cqe.specs.declared.step.Verdict.{Verdict}
-use Rattle.cqe.specs.declared.step.Verdict.TheVariants.{GoesOn, Ends}
 use Rattle.cqe.specs.Classes.{classified}
 use Rattle.cqe.specs.Cqe.{is_sync, fits, reacted, read_as, on_cqe}
-use Rattle.cqe.specs.Steps.{settled, settled_verdict}
+use Rattle.cqe.specs.Steps.{settled, settled_outcome}
 use Rattle.sqe.specs.Building.{built}
 use Rattle.runs.specs.Notions.{Event, Event.submitted, Event.completed, Heard, Heard.retry, Heard.failed, Heard.moved, heard, Tried, bytes_wanted, takes, tried, synced, fsync_last, asked_last, cancelled_last}
 use Rattle.runs.specs.Laws.{Good, FitsAsked, Lawful, EveryRunIsLawful}
@@ -108,17 +107,17 @@ wider false false a b (moved n) i j f = let k = j refl in omega (arith, k, f)
 
 -- after a granted cancel nothing goes on
 
-goes_uncancelled : (x : Bool) (v : Verdict) → settled_verdict x v ≡ GoesOn → x ≡ false
-goes_uncancelled true GoesOn e = cc
-goes_uncancelled false GoesOn e = refl
-goes_uncancelled x (Ends o) e = cc
+goes_uncancelled : (x : Bool) (v : Option Outcome) → settled_outcome x v ≡ None → x ≡ false
+goes_uncancelled true None e = cc
+goes_uncancelled false None e = refl
+goes_uncancelled x (Some o) e = cc
 
 abbrev CancelWell : Bool → Result Step Denial → Type 0
 CancelWell x (Err d) = Unit {0}
-CancelWell x (Ok s) = s.verdict ≡ GoesOn → x ≡ false
+CancelWell x (Ok s) = s.outcome ≡ None → x ≡ false
 
 granted_cancels : (table : List ChunkRow) (q : Request) (x b : Bool) (k : CqeResult) (d : Denial) → CancelWell x (cond b (Ok (settled x (reacted table q k))) (Err d))
-granted_cancels table q x true k d = λ e. goes_uncancelled x (reacted table q k).verdict e
+granted_cancels table q x true k d = λ e. goes_uncancelled x (reacted table q k).outcome e
 granted_cancels table q x false k d = tt
 
 cancel_well : (table : List ChunkRow) (q : Request) (x : Bool) (o : Option CqeResult) → CancelWell x (read_as table q x o)
@@ -133,13 +132,13 @@ Inv table w (InFlight q) h =
     Going table w q (tried w h) (takes h) (synced h)
     × (fsync_last h ≡ is_sync q)
     × (is_sync q ≡ false → bytes_submitted table q ≡ asked_last h)
-Inv table w (Ended q o) h = After table w (Ends o) q (tried w h) (takes h) (synced h)
+Inv table w (Ended q o) h = After table w (Some o) q (tried w h) (takes h) (synced h)
 
-completing : (table : List ChunkRow) (w : Wanted) (v : Verdict) (q : Request) (x : Bool) (r : ℤ) (h : List Event) →
-    After table w v q (tried w (completed x r ∷ h)) (takes (completed x r ∷ h)) (synced (completed x r ∷ h)) → (v ≡ GoesOn → x ≡ false) →
+completing : (table : List ChunkRow) (w : Wanted) (v : Option Outcome) (q : Request) (x : Bool) (r : ℤ) (h : List Event) →
+    After table w v q (tried w (completed x r ∷ h)) (takes (completed x r ∷ h)) (synced (completed x r ∷ h)) → (v ≡ None → x ≡ false) →
     Inv table w (stands v q) (completed x r ∷ h)
-completing table w GoesOn q x r h a c = (a, c refl)
-completing table w (Ends o) q x r h a c = a
+completing table w None q x r h a c = (a, c refl)
+completing table w (Some o) q x r h a c = a
 
 pub record Kept (table : List ChunkRow) (w : Wanted) (p : Standing) (h : List Event) : Type 0 where
   pub inv : Inv table w p h
@@ -179,7 +178,7 @@ kept {table} {w} (completes p q state r s h run b i) z =
     let f = subst (FitWell table q (heard r)) b c.1 in
     let x = subst (CancelWell (cancel_granted state)) b c.2 in
     rw i (record {
-      inv = completing table w s.verdict s.request (cancel_granted state) r h a x;
+      inv = completing table w s.outcome s.request (cancel_granted state) r h a x;
       each = each_more (Good table w) (completed (cancel_granted state) r) h (wider (is_sync q) (fsync_last h) _ _ (heard r) k.inv.1 k.inv.2 f) k.each;
     })
 

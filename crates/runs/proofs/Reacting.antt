@@ -3,6 +3,7 @@ use Rattle.std.proofs.Common.{◌≡◌, ℕ, ◌+◌, ◌-◌, ◌/◌, ◌%◌
 use Rattle.std.proofs.lemmas.Bool.{eqb-true, eqb-false}
 use Rattle.records.specs.declared.buffer.ChunkRow.{ChunkRow}
 use Rattle.records.specs.declared.denial.Denial.{Denial}
+use Rattle.records.specs.declared.outcome.Outcome.{Outcome}
 use Rattle.records.specs.declared.outcome.Outcome.TheVariants as outcome
 use Rattle.request.specs.declared.kinds.Request.{Request}
 use Rattle.request.specs.declared.kinds.Wanted.{Wanted}
@@ -10,11 +11,9 @@ use Rattle.request.specs.declared.kinds.Wanted.TheVariants as wanted
 use Rattle.cqe.specs.declared.result.CqeResult.{CqeResult}
 use Rattle.cqe.specs.declared.result.CqeResult.TheVariants.{Retry, Cancelled, Error, Zero, Count}
 use Rattle.cqe.specs.declared.step.Step.{Step}
-use Rattle.cqe.specs.declared.step.Verdict.{Verdict}
-use Rattle.cqe.specs.declared.step.Verdict.TheVariants.{GoesOn, Ends}
 use Rattle.cqe.specs.Classes.{classified, error_class}
 use Rattle.cqe.specs.Cqe.{fits, reacted, is_sync, read_as}
-use Rattle.cqe.specs.Steps.{settled, settled_verdict}
+use Rattle.cqe.specs.Steps.{settled, settled_outcome, ends}
 use Rattle.runs.specs.Notions.{Heard, Heard.retry, Heard.failed, Heard.moved, heard, Tried, bytes_wanted, besides_retry, told, synced_by, range_end}
 use Rattle.runs.proofs.Going.{Going, After, stopping}
 use Rattle.runs.proofs.ReactingReads.{class_heard, Proper, recv_reacts, read_reacts, direct_reacts, read_plainly, read_after_direct}
@@ -23,7 +22,7 @@ use Rattle.runs.proofs.ReactingWrites.{send_reacts, write_reacts, sync_reacts}
 -- each kind
 
 pub reacts : (table : List ChunkRow) (w : Wanted) (q : Request) (t : Tried) (tk : ℕ) (sy : Bool) (k : CqeResult) → 0 < bytes_wanted table w → Proper k → fits table q k ≡ true → Going table w q t tk sy →
-    After table w (reacted table q k).verdict (reacted table q k).request (told (is_sync q) (range_end w) t (class_heard k)) (besides_retry (class_heard k) + tk) (synced_by (is_sync q) (class_heard k) sy)
+    After table w (reacted table q k).outcome (reacted table q k).request (told (is_sync q) (range_end w) t (class_heard k)) (besides_retry (class_heard k) + tk) (synced_by (is_sync q) (class_heard k) sy)
 reacts table (wanted.Send d s) q t tk sy k z p f g =
     let e = rw g.request_is at f in
     rw (g.request_is, g.tried_is) (send_reacts table d s sy g.n tk g.c k p e g.placed g.left g.few)
@@ -74,20 +73,20 @@ matches (pos n) x = count_matches n (eqb n 0) refl
 matches (negsuc k) x = low_matches (ltb k 4095) (k + 1) x
 
 -- after a cancel nothing goes on
-settles : (table : List ChunkRow) (w : Wanted) (x : Bool) (v : Verdict) (q : Request) (t : Tried) (tk : ℕ) (sy : Bool) → 0 < bytes_wanted table w →
-    After table w v q t tk sy → After table w (settled_verdict x v) q t tk sy
-settles table w true GoesOn q t tk sy z a = stopping table w outcome.Timeout q t tk sy refl z a
-settles table w false GoesOn q t tk sy z a = a
-settles table w x (Ends o) q t tk sy z a = a
+settles : (table : List ChunkRow) (w : Wanted) (x : Bool) (v : Option Outcome) (q : Request) (t : Tried) (tk : ℕ) (sy : Bool) → 0 < bytes_wanted table w →
+    After table w v q t tk sy → After table w (settled_outcome x v) q t tk sy
+settles table w true None q t tk sy z a = stopping table w outcome.Timeout q t tk sy refl z a
+settles table w false None q t tk sy z a = a
+settles table w x (Some o) q t tk sy z a = a
 
 -- what a granted completion leaves, and that a cancelled one ends
 abbrev pub Completed : List ChunkRow → Wanted → (cancelled : Bool) → Tried → ℕ → Bool → Result Step Denial → Type 0
 Completed table w x t tk sy (Err d) = Unit {0}
-Completed table w x t tk sy (Ok s) = After table w s.verdict s.request t tk sy
+Completed table w x t tk sy (Ok s) = After table w s.outcome s.request t tk sy
 
 fitting : (table : List ChunkRow) (w : Wanted) (q : Request) (t : Tried) (tk : ℕ) (sy x : Bool) (k : CqeResult) (d : Denial) (b : Bool) → fits table q k ≡ b → 0 < bytes_wanted table w → Proper k → Going table w q t tk sy →
     Completed table w x (told (is_sync q) (range_end w) t (class_heard k)) (besides_retry (class_heard k) + tk) (synced_by (is_sync q) (class_heard k) sy) (cond b (Ok (settled x (reacted table q k))) (Err d))
-fitting table w q t tk sy x k d true f z p g = settles table w x (reacted table q k).verdict (reacted table q k).request _ _ _ z (reacts table w q t tk sy k z p f g)
+fitting table w q t tk sy x k d true f z p g = settles table w x (reacted table q k).outcome (reacted table q k).request _ _ _ z (reacts table w q t tk sy k z p f g)
 fitting table w q t tk sy x k d false f z p g = tt
 
 pub read_in : (table : List ChunkRow) (w : Wanted) (q : Request) (t : Tried) (tk : ℕ) (sy x : Bool) (e : Heard) (o : Option CqeResult) → Matches e o → 0 < bytes_wanted table w → Going table w q t tk sy →

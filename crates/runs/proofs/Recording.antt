@@ -47,7 +47,7 @@ submit_recorded table w p after g list l a x y z = rw (x, y, z) (submit_in table
 complete_as : (table : List ChunkRow) (w : Wanted) (q : Request) (state : WaiterState) (n : ℤ) (r : Result Step Denial) → on_cqe table q state n ≡ r →
     CompleteRecorded table w (InFlight q) (landed q r) r state n
 complete_as table w q state n (Ok s) e =
-    λ h run. let m = completes (stands s.verdict s.request) q state n s h run e refl in (m, λ z. every_run table w _ _ m z)
+    λ h run. let m = completes (stands s.outcome s.request) q state n s h run e refl in (m, λ z. every_run table w _ _ m z)
 complete_as table w q state n (Err d) e = refl
 
 complete_in : (table : List ChunkRow) (w : Wanted) (p : Standing) (state : WaiterState) (n : ℤ) →

@@ -61,7 +61,7 @@ complete_answer table (InFlight q) state r = on_cqe table q state r
 complete_answer table (Ended q o) state r = Err denial.UnknownToken
 
 abbrev pub landed : Request → Result Step Denial → Standing
-landed q (Ok s) = stands s.verdict s.request
+landed q (Ok s) = stands s.outcome s.request
 landed q (Err d) = InFlight q
 
 abbrev pub complete_after : List ChunkRow → Standing → WaiterState → ℤ → Standing

@@ -1,15 +1,14 @@
 -- A run of one transfer: admitted, then submitted and completed in turn, each as the calls' contracts say.
-use Rattle.std.specs.Prelude.{◌≡◌, List, [], ◌∷◌, ℤ, Ok}
+use Rattle.std.specs.Prelude.{◌≡◌, List, [], ◌∷◌, ℤ, Ok, Some, None, Option}
 use Rattle.records.specs.declared.buffer.ChunkRow.{ChunkRow}
 use Rattle.records.specs.declared.buffer.Iovec.{Iovec}
 use Rattle.records.specs.declared.waiter.WaiterState.{WaiterState}
+use Rattle.records.specs.declared.outcome.Outcome.{Outcome}
 use Rattle.records.specs.States.{cancel_granted}
 use Rattle.request.specs.declared.kinds.Request.{Request}
 use Rattle.request.specs.declared.kinds.Wanted.{Wanted}
 use Rattle.request.specs.Admission.{admitted}
 use Rattle.cqe.specs.declared.step.Step.{Step}
-use Rattle.cqe.specs.declared.step.Verdict.{Verdict}
-use Rattle.cqe.specs.declared.step.Verdict.TheVariants.{GoesOn, Ends}
 use Rattle.cqe.specs.Cqe.{on_cqe}
 use Rattle.sqe.specs.declared.Setting.{Setting}
 use Rattle.sqe.specs.declared.Staged.{Staged}
@@ -18,9 +17,9 @@ use Rattle.runs.specs.declared.transfer.Standing.{Standing}
 use Rattle.runs.specs.declared.transfer.Standing.TheVariants.{Queued, InFlight, Ended}
 use Rattle.runs.specs.Notions.{Event, Event.submitted, Event.completed}
 
-abbrev pub stands : Verdict → Request → Standing
-stands GoesOn q = Queued q
-stands (Ends o) q = Ended q o
+abbrev pub stands : Option Outcome → Request → Standing
+stands None q = Queued q
+stands (Some o) q = Ended q o
 
 pub data Run (table : List ChunkRow) (w : Wanted) : Standing → List Event → Type 0 where
   begins : (p : Standing) (q : Request) → admitted table w ≡ Ok q → p ≡ Queued q → Run table w p []
@@ -30,5 +29,5 @@ pub data Run (table : List ChunkRow) (w : Wanted) : Standing → List Event → 
       Run table w p (submitted s.submission after ∷ h)
   completes : (p : Standing) (q : Request) (state : WaiterState) (r : ℤ) (s : Step) (h : List Event) →
       Run table w (InFlight q) h →
-      on_cqe table q state r ≡ Ok s → p ≡ stands s.verdict s.request →
+      on_cqe table q state r ≡ Ok s → p ≡ stands s.outcome s.request →
       Run table w p (completed (cancel_granted state) r ∷ h)

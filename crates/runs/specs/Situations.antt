@@ -20,8 +20,6 @@ use Rattle.request.specs.declared.kinds.Wanted.TheVariants as wanted
 use Rattle.request.specs.Admission.{admitted, skip, superset_start, aligned_end}
 use Rattle.request.specs.Completing.{output_of}
 use Rattle.cqe.specs.declared.step.Step.{Step}
-use Rattle.cqe.specs.declared.step.Verdict.{Verdict}
-use Rattle.cqe.specs.declared.step.Verdict.TheVariants.{GoesOn, Ends}
 use Rattle.cqe.specs.Cqe.{on_cqe}
 use Rattle.sqe.specs.declared.Staged.{Staged}
 use Rattle.sqe.specs.Building.{built}
@@ -42,12 +40,12 @@ abbrev pub began : Result Request Denial → Played
 began (Ok q) = running q
 began (Err d) = denied d
 
-abbrev pub judged : Verdict → Request → Played
-judged GoesOn q = running q
-judged (Ends o) q = over q o
+abbrev pub judged : Option Outcome → Request → Played
+judged None q = running q
+judged (Some o) q = over q o
 
 abbrev pub heard_by : Result Step Denial → Played
-heard_by (Ok s) = judged s.verdict s.request
+heard_by (Ok s) = judged s.outcome s.request
 heard_by (Err d) = denied d
 
 abbrev pub completed_with : List ChunkRow → WaiterState → Played → ℤ → Played

@@ -3,10 +3,9 @@ use Rattle.std.specs.Prelude.{Bool, false, cond, ℤ, Some, None, Ok, Err, vec_i
 use Rattle.records.specs.declared.denial.Denial.{Denial}
 use Rattle.records.specs.declared.submission.Submission.{Submission}
 use Rattle.records.specs.declared.waiter.WaiterState.TheVariants.{Active, CancelRequested}
+use Rattle.records.specs.declared.outcome.Outcome.{Outcome}
 use Rattle.request.specs.declared.kinds.Request.{Request}
 use Rattle.cqe.specs.declared.step.Step.{Step}
-use Rattle.cqe.specs.declared.step.Verdict.{Verdict}
-use Rattle.cqe.specs.declared.step.Verdict.TheVariants.{GoesOn, Ends}
 use Rattle.sqe.specs.declared.Setting.{Setting}
 use Rattle.runs.specs.declared.transfer.Standing.{Standing}
 use Rattle.runs.specs.declared.transfer.Standing.TheVariants.{Queued, InFlight, Ended}
@@ -53,12 +52,12 @@ marked s unsupported = record { descriptor = s.descriptor; hints = cond unsuppor
 abbrev pub with_setting : Player → Setting → Player
 with_setting p s = record { table = p.table; iovecs = p.iovecs; setting = s; running = p.running }
 
-abbrev pub followed : Player → Running → Verdict → Option Running
-followed p r GoesOn = submitted p r
-followed p r (Ends o) = None
+abbrev pub followed : Player → Running → Option Outcome → Option Running
+followed p r None = submitted p r
+followed p r (Some o) = None
 
 abbrev pub step_followed : Player → Running → Step → Option Running
-step_followed p r s = followed (with_setting p (marked p.setting s.unsupported)) r s.verdict
+step_followed p r s = followed (with_setting p (marked p.setting s.unsupported)) r s.outcome
 
 -- a completion that does not fit changes nothing
 abbrev pub answered : Player → Running → Standing → Result Step Denial → Option Running
