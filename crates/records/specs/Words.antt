@@ -4,7 +4,10 @@ use Rattle.std.specs.Fmt.{decimal}
 use Rattle.records.specs.declared.buffer.Buffer.{Buffer}
 use Rattle.records.specs.declared.denial.Denial.{Denial}
 use Rattle.records.specs.declared.denial.Denial.TheVariants.{FileNotLive, LimitBroken, UnfitForDirect, WrongObserver, NoFreeSlot, NoSuchWaiter, InFlight, CancelGranted, SettledOtherwise, PermitConflict, UnknownToken, CompletionMisfit, FileInUse, ListTooShort}
+use Rattle.records.specs.declared.id.Id.{Id}
 use Rattle.records.specs.declared.id.FileId.{FileId}
+use Rattle.records.specs.declared.mode.WriteAtState.{WriteAtState}
+use Rattle.records.specs.declared.mode.WriteAtState.TheVariants as state
 use Rattle.records.specs.declared.outcome.Outcome.{Outcome}
 use Rattle.records.specs.declared.outcome.Outcome.TheVariants as outcome
 use Rattle.records.specs.declared.output.RequestOutput.{RequestOutput}
@@ -46,11 +49,20 @@ outcome_text outcome.Closed = codes "closed"
 outcome_text (outcome.Io code) = told (codes "io ") code
 outcome_text outcome.LedgerSpent = codes "ledger-spent"
 
+abbrev pub state_text : WriteAtState → List ℕ
+state_text state.Writing = codes "writing"
+state_text state.WritingSync = codes "writing-sync"
+state_text state.WritingBeforeSync = codes "writing-before-sync"
+state_text state.Syncing = codes "syncing"
+
 abbrev pub buffer_text : Buffer → List ℕ
 buffer_text b = told (codes "buffer place ") b.place ++ (told (codes " capacity ") b.capacity ++ told (codes " length ") b.length)
 
+abbrev pub id_text : Id → List ℕ
+id_text id = decimal id.index ++ told (codes " ") id.generation
+
 abbrev pub file_text : FileId → List ℕ
-file_text file = told (codes "file ") file.0.index ++ told (codes " ") file.0.generation
+file_text file = codes "file " ++ id_text file.0
 
 abbrev pub write_text : WriteBuffers → List ℕ
 write_text (Single s) = told (codes "single place ") s.place ++ (told (codes " length ") s.length ++ told (codes " done ") s.done)

@@ -1,7 +1,7 @@
 //! Identities of slots, and the token that a submission carries.
 ghost use Rattle.std.specs.Prelude.{◌≡◌, Some};
 ghost use Rattle.records.specs.Tokens.{token, token_index, token_generation};
-ghost use Rattle.records.specs.Words.{file_text};
+ghost use Rattle.records.specs.Words.{id_text, file_text};
 
 use std::fmt;
 
@@ -40,11 +40,18 @@ impl WaiterId {
     }
 }
 
+impl fmt::Display for Id {
+    ghost output = { λ id. Some (id_text id) };
+
+    fn fmt<W: fmt::Write>(&self, f: &mut fmt::Formatter<W>) -> fmt::Result {
+        write!(f, "{} {}", self.index, self.generation)
+    }
+}
+
 impl fmt::Display for FileId {
     ghost output = { λ file. Some (file_text file) };
 
     fn fmt<W: fmt::Write>(&self, f: &mut fmt::Formatter<W>) -> fmt::Result {
-        let FileId(id) = *self;
-        write!(f, "file {} {}", id.index, id.generation)
+        write!(f, "file {}", self.0)
     }
 }

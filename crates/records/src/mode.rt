@@ -1,6 +1,9 @@
 //! How a read or a write treats the page cache, and how a write becomes durable.
-ghost use Rattle.std.specs.Prelude.{◌≡◌};
+ghost use Rattle.std.specs.Prelude.{◌≡◌, Some};
 ghost use Rattle.records.specs.Modes.{hinting, started};
+ghost use Rattle.records.specs.Words.{state_text};
+
+use std::fmt;
 
 /// Page-cache policy of a positioned read or write.
 #[derive(Clone, Copy)]
@@ -53,5 +56,18 @@ impl From<WriteMode> for WriteAtState {
             WriteMode::WritingSync => WriteAtState::WritingSync,
             WriteMode::WritingBeforeSync => WriteAtState::WritingBeforeSync,
         }
+    }
+}
+
+impl fmt::Display for WriteAtState {
+    ghost output = { λ state. Some (state_text state) };
+
+    fn fmt<W: fmt::Write>(&self, f: &mut fmt::Formatter<W>) -> fmt::Result {
+        f.write_str(match self {
+            WriteAtState::Writing => "writing",
+            WriteAtState::WritingSync => "writing-sync",
+            WriteAtState::WritingBeforeSync => "writing-before-sync",
+            WriteAtState::Syncing => "syncing",
+        })
     }
 }

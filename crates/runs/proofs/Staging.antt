@@ -1,5 +1,6 @@
 -- A submission begins where the laws say, and the request in flight keeps what holds.
 use Rattle.std.proofs.Common.{◌≡◌, ℕ, suc, ◌+◌, ◌-◌, ◌%◌, ◌<◌, ◌≤◌, min, Bool, true, false, cond, ltb, List, [], ◌∷◌, ◌++◌, length, take, drop, Ok, Err, Result, sym, refl, ap, ◌∙◌, inl, inr, arith}
+use Rattle.records.specs.declared.submission.Opcode.TheVariants as op
 use Rattle.records.specs.declared.buffer.ChunkRow.{ChunkRow}
 use Rattle.records.specs.declared.buffer.Iovec.{Iovec}
 use Rattle.records.specs.declared.denial.Denial.{Denial}
@@ -150,7 +151,7 @@ module _ (table : List ChunkRow) (f : FileId) (offset : ℕ) (made : Cache) wher
       (is_sync (request.WriteAt (writing (source.Single place k) m n c (kept_hint cache g.hints))) ≡ false) →
       (bytes_submitted table (request.WriteAt (writing (source.Single place k) m n c (kept_hint cache g.hints))) ≡ min (k - n) 4294967295) →
       BuiltWell table (wanted.WriteAt f offset (source.Single place k) m made) (plainly n) tk false
-      (bytes_built (writing (source.Single place k) m n c cache) g (Ok (record { opcode = 23; place = plus place n; length = min (k - n) 4294967295 })))
+      (bytes_built (writing (source.Single place k) m n c cache) g (Ok (record { opcode = op.Write; place = plus place n; length = min (k - n) 4294967295 })))
       list
   write_single place k m n tk c cache g list a i j =
       let l = a.left in let e = a.ends in let p = a.placed in (

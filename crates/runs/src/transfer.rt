@@ -3,7 +3,7 @@ ghost use Rattle.std.specs.Prelude.{◌≡◌};
 ghost use Rattle.runs.specs.Calls.{begin_answer, submit_answer, submit_after, submit_list, complete_answer, complete_after, left_at};
 ghost use Rattle.runs.specs.Recorded.{BeginRecorded, SubmitRecorded, CompleteRecorded};
 
-use cqe::{Step, Verdict, on_cqe};
+use cqe::{Step, on_cqe};
 use records::{ChunkRow, Denial, Iovec, Outcome, Submission, WaiterState};
 use request::{Request, Wanted};
 use sqe::{Setting, Staged, build_sqe};
@@ -107,9 +107,9 @@ impl Transfer {
             return Err(Denial::UnknownToken);
         };
         let step = on_cqe(request, table, state, res)?;
-        self.standing = match step.verdict {
-            Verdict::GoesOn => Standing::Queued(step.request),
-            Verdict::Ends(outcome) => Standing::Ended(step.request, outcome),
+        self.standing = match step.outcome {
+            None => Standing::Queued(step.request),
+            Some(outcome) => Standing::Ended(step.request, outcome),
         };
         Ok(step)
     }

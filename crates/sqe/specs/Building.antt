@@ -1,5 +1,5 @@
 -- The next submission of a request: the fields of io_uring_enter(2)'s submission entry, by opcode.
--- Opcodes and flags have the numbers of the kernel's headers; the pages have their names alone.
+-- Flags have the numbers of the kernel's headers, as opcodes have (`opcode_number`); the pages have their names alone.
 use Rattle.std.specs.Prelude.{ℕ, ◌+◌, ◌-◌, min, Bool, true, false, List, Some, None, Ok, Err, Option, Result}
 use Rattle.records.specs.declared.buffer.ChunkRow.{ChunkRow}
 use Rattle.records.specs.declared.buffer.Iovec.{Iovec}
@@ -8,9 +8,12 @@ use Rattle.records.specs.declared.mode.Cache.{Cache}
 use Rattle.records.specs.declared.mode.Cache.TheVariants.{Enabled, Disabled}
 use Rattle.records.specs.declared.mode.WriteAtState.{WriteAtState}
 use Rattle.records.specs.declared.mode.WriteAtState.TheVariants.{Writing, WritingSync, WritingBeforeSync, Syncing}
+use Rattle.records.specs.declared.submission.Opcode.{Opcode}
+use Rattle.records.specs.declared.submission.Opcode.TheVariants as op
 use Rattle.records.specs.declared.submission.Submission.{Submission}
 use Rattle.records.specs.declared.write.WriteBuffers.{WriteBuffers}
 use Rattle.records.specs.declared.write.WriteBuffers.TheVariants.{Single, Rows}
+use Rattle.records.specs.Bytes.{opcode_number}
 use Rattle.records.specs.Sums.{plus}
 use Rattle.records.specs.Writes.{write_done}
 use Rattle.rows.specs.Vectors.{filled_answer, filled_list}
@@ -43,13 +46,13 @@ sync_flag WritingSync = 2
 sync_flag WritingBeforeSync = 0
 sync_flag Syncing = 0
 
--- IORING_OP_WRITEV is 2: its address is the list's, its length the number of iovecs
+-- IORING_OP_WRITEV: its address is the list's, its length the number of iovecs
 abbrev pub rows_part : (list : ℕ) → Result ℕ Denial → Result Part Denial
-rows_part list (Ok count) = Ok (record { opcode = 2; place = list; length = count })
+rows_part list (Ok count) = Ok (record { opcode = op.Writev; place = list; length = count })
 rows_part list (Err d) = Err d
 
 -- one place from its first unreported byte on, or the iovecs of rows
-abbrev pub part_of : List ChunkRow → WriteBuffers → (plain list : ℕ) → List Iovec → Result Part Denial
+abbrev pub part_of : List ChunkRow → WriteBuffers → (plain : Opcode) → (list : ℕ) → List Iovec → Result Part Denial
 part_of table (Single s) plain list iovecs =
     Ok (record { opcode = plain; place = plus s.place s.done; length = min (s.length - s.done) 4294967295 })
 part_of table (Rows r) plain list iovecs = rows_part list (filled_answer table r.first r.count r.cursor iovecs)
@@ -58,16 +61,16 @@ abbrev pub part_list : List ChunkRow → WriteBuffers → List Iovec → List Io
 part_list table (Single s) iovecs = iovecs
 part_list table (Rows r) iovecs = filled_list table r.first r.count r.cursor iovecs
 
--- IORING_OP_FSYNC is 3, IORING_FSYNC_DATASYNC 1; it has no range
+-- IORING_FSYNC_DATASYNC is 1; a sync has no range
 abbrev pub datasync : Setting → Submission
-datasync s = record { opcode = 3; descriptor = s.descriptor; offset = 0; place = 0; length = 0; flags = 1; token = s.token }
+datasync s = record { opcode = opcode_number op.Fsync; descriptor = s.descriptor; offset = 0; place = 0; length = 0; flags = 1; token = s.token }
 
--- a socket has no offset and no flags; IORING_OP_SEND is 26
+-- a socket has no offset and no flags
 abbrev pub send_built : SendRequest → Setting → Result Part Denial → Result Staged Denial
 send_built q s (Ok p) = Ok (record {
   request = request.Send q;
   submission = record {
-    opcode = p.opcode;
+    opcode = opcode_number p.opcode;
     descriptor = q.descriptor;
     offset = 0;
     place = p.place;
@@ -78,12 +81,11 @@ send_built q s (Ok p) = Ok (record {
 })
 send_built q s (Err d) = Err d
 
--- IORING_OP_RECV is 27
 abbrev pub recv_built : RecvRequest → Setting → Staged
 recv_built q s = record {
   request = request.Recv q;
   submission = record {
-    opcode = 27;
+    opcode = opcode_number op.Recv;
     descriptor = q.descriptor;
     offset = 0;
     place = plus q.buffer.place q.received;
@@ -96,12 +98,12 @@ recv_built q s = record {
 abbrev pub read_with : ReadAtRequest → Cache → ReadAtRequest
 read_with q c = record { file = q.file; offset = q.offset; read = q.read; buffer = q.buffer; cache = c; direct = q.direct }
 
--- IORING_OP_READ is 22; a direct read asks for whole pages, 0x7ffff000 bytes at most, of its own descriptor
+-- a direct read asks for whole pages, 0x7ffff000 bytes at most, of its own descriptor
 abbrev pub direct_built : ReadAtRequest → Direct → Setting → Staged
 direct_built q d s = record {
   request = request.ReadAt q;
   submission = record {
-    opcode = 22;
+    opcode = opcode_number op.Read;
     descriptor = d.descriptor;
     offset = plus q.offset q.read;
     place = plus q.buffer.place q.read;
@@ -115,7 +117,7 @@ abbrev pub buffered_built : ReadAtRequest → Setting → Staged
 buffered_built q s = record {
   request = request.ReadAt (read_with q (kept_hint q.cache s.hints));
   submission = record {
-    opcode = 22;
+    opcode = opcode_number op.Read;
     descriptor = s.descriptor;
     offset = plus q.offset q.read;
     place = plus q.buffer.place q.read;
@@ -135,12 +137,11 @@ read_built q s = read_built_in q.direct q s
 abbrev pub write_with : WriteAtRequest → Cache → WriteAtRequest
 write_with q c = record { file = q.file; offset = q.offset; write = q.write; state = q.state; cache = c }
 
--- IORING_OP_WRITE is 23
 abbrev pub bytes_built : WriteAtRequest → Setting → Result Part Denial → Result Staged Denial
 bytes_built q s (Ok p) = Ok (record {
   request = request.WriteAt (write_with q (kept_hint q.cache s.hints));
   submission = record {
-    opcode = p.opcode;
+    opcode = opcode_number p.opcode;
     descriptor = s.descriptor;
     offset = plus q.offset (write_done q.write);
     place = p.place;
@@ -153,9 +154,9 @@ bytes_built q s (Err d) = Err d
 
 abbrev pub write_built : WriteAtState → List ChunkRow → WriteAtRequest → Setting → List Iovec → Result Staged Denial
 write_built Syncing table q s iovecs = Ok (record { request = request.WriteAt q; submission = datasync s })
-write_built Writing table q s iovecs = bytes_built q s (part_of table q.write 23 s.list iovecs)
-write_built WritingSync table q s iovecs = bytes_built q s (part_of table q.write 23 s.list iovecs)
-write_built WritingBeforeSync table q s iovecs = bytes_built q s (part_of table q.write 23 s.list iovecs)
+write_built Writing table q s iovecs = bytes_built q s (part_of table q.write op.Write s.list iovecs)
+write_built WritingSync table q s iovecs = bytes_built q s (part_of table q.write op.Write s.list iovecs)
+write_built WritingBeforeSync table q s iovecs = bytes_built q s (part_of table q.write op.Write s.list iovecs)
 
 abbrev pub write_list : WriteAtState → List ChunkRow → WriteAtRequest → List Iovec → List Iovec
 write_list Syncing table q iovecs = iovecs
@@ -164,7 +165,7 @@ write_list WritingSync table q iovecs = part_list table q.write iovecs
 write_list WritingBeforeSync table q iovecs = part_list table q.write iovecs
 
 abbrev pub built : List ChunkRow → Request → Setting → List Iovec → Result Staged Denial
-built table (request.Send q) s iovecs = send_built q s (part_of table q.write 26 s.list iovecs)
+built table (request.Send q) s iovecs = send_built q s (part_of table q.write op.Send s.list iovecs)
 built table (request.Recv q) s iovecs = Ok (recv_built q s)
 built table (request.ReadAt q) s iovecs = Ok (read_built q s)
 built table (request.WriteAt q) s iovecs = write_built q.state table q s iovecs

@@ -2,23 +2,11 @@
 #![tactic(auto)]
 
 ghost use Rattle.std.specs.Prelude.{◌≡◌};
-ghost use Rattle.sqe.specs.Building.{kept_hint, hint_flag, sync_flag, part_of, part_list, datasync, send_built, recv_built, direct_built, buffered_built, read_built, bytes_built, write_built, write_list, built, built_list};
+ghost use Rattle.sqe.specs.Building.{kept_hint, hint_flag, sync_flag, part_of, part_list, datasync, send_built, recv_built, read_built, bytes_built, write_built, write_list, built, built_list};
 
-use records::{Cache, ChunkRow, Denial, Iovec, Submission, WriteAtState, WriteBuffers};
-use request::{Direct, ReadAtRequest, RecvRequest, Request, SendRequest, WriteAtRequest};
+use records::{Cache, ChunkRow, Denial, Iovec, Opcode, Submission, WriteAtState, WriteBuffers};
+use request::{ReadAtRequest, RecvRequest, Request, SendRequest, WriteAtRequest};
 use rows::fill_iovecs;
-
-const WRITEV: u8 = 2;
-
-const FSYNC: u8 = 3;
-
-const READ: u8 = 22;
-
-const WRITE: u8 = 23;
-
-const SEND: u8 = 26;
-
-const RECV: u8 = 27;
 
 const FSYNC_DATASYNC: u32 = 1;
 
@@ -38,6 +26,8 @@ pub struct Setting {
     pub list: u64,
 }
 
+// The setting, the table and the list stay three parameters: the list is lent for the one call, and a struct that held it would only be taken apart again.
+
 /// A request as it goes into flight, and its submission.
 pub struct Staged {
     pub request: Request,
@@ -47,7 +37,7 @@ pub struct Staged {
 // Where the bytes of a write's next submission lie.
 #[derive(Clone, Copy)]
 pub(crate) struct Part {
-    pub(crate) opcode: u8,
+    pub(crate) opcode: Opcode,
     pub(crate) place: u64,
     pub(crate) length: u32,
 }
@@ -75,7 +65,7 @@ pub(crate) fn cache_flag(cache: Cache) -> u32
 pub(crate) fn part_of_write(
     table: &[ChunkRow],
     write: WriteBuffers,
-    plain: u8,
+    plain: Opcode,
     list: u64,
     iovecs: &mut [Iovec],
 ) -> Result<Part, Denial>
@@ -86,12 +76,12 @@ pub(crate) fn part_of_write(
         WriteBuffers::Single(single) => Ok(Part {
             opcode: plain,
             place: single.place.saturating_add(single.done),
-            length: single.length.saturating_sub(single.done).min(4294967295) as u32,
+            length: single.bytes_submitted(),
         }),
         WriteBuffers::Rows(rows) => {
             let count = fill_iovecs(table, rows.first, rows.count, rows.cursor, iovecs)?;
             Ok(Part {
-                opcode: WRITEV,
+                opcode: Opcode::Writev,
                 place: list,
                 length: count,
             })
@@ -113,7 +103,7 @@ pub(crate) fn build_datasync(setting: Setting) -> Submission
     ensures { result ≡ datasync setting }
 {
     Submission {
-        opcode: FSYNC,
+        opcode: Opcode::Fsync.into(),
         descriptor: setting.descriptor,
         offset: 0,
         place: 0,
@@ -129,12 +119,12 @@ pub(crate) fn build_send(
     table: &[ChunkRow],
     iovecs: &mut [Iovec],
 ) -> Result<Staged, Denial>
-    ensures answer { result ≡ send_built q setting (part_of table.now q.write 26 setting.list iovecs.old) }
+    ensures answer { result ≡ send_built q setting (part_of table.now q.write Opcode.Send setting.list iovecs.old) }
     ensures list { iovecs.new ≡ part_list table.now q.write iovecs.old }
 {
-    let part = part_of_write(table, q.write, SEND, setting.list, iovecs)?;
+    let part = part_of_write(table, q.write, Opcode::Send, setting.list, iovecs)?;
     let submission = Submission {
-        opcode: part.opcode,
+        opcode: part.opcode.into(),
         descriptor: q.descriptor,
         offset: 0,
         place: part.place,
@@ -152,11 +142,11 @@ pub(crate) fn build_recv(q: RecvRequest, setting: Setting) -> Staged
     ensures { result ≡ recv_built q setting }
 {
     let submission = Submission {
-        opcode: RECV,
+        opcode: Opcode::Recv.into(),
         descriptor: q.descriptor,
         offset: 0,
         place: q.buffer.place.saturating_add(q.received),
-        length: q.length.saturating_sub(q.received).min(4294967295) as u32,
+        length: q.bytes_submitted(),
         flags: 0,
         token: setting.token,
     };
@@ -166,52 +156,29 @@ pub(crate) fn build_recv(q: RecvRequest, setting: Setting) -> Staged
     }
 }
 
-// A direct read goes to its own descriptor, in whole pages and without flags.
-pub(crate) fn build_direct(q: ReadAtRequest, direct: Direct, setting: Setting) -> Staged
-    ensures { result ≡ direct_built q direct setting }
+// A direct read goes to its own descriptor and without flags.
+pub(crate) fn build_read(q: ReadAtRequest, setting: Setting) -> Staged
+    ensures { result ≡ read_built q setting }
 {
-    let left = q.buffer.length.saturating_sub(q.read);
-    let submission = Submission {
-        opcode: READ,
-        descriptor: direct.descriptor,
-        offset: q.offset.saturating_add(q.read),
-        place: q.buffer.place.saturating_add(q.read),
-        length: left.min(2147479552) as u32,
-        flags: 0,
-        token: setting.token,
+    let (descriptor, cache, flags) = match q.direct {
+        Some(direct) => (direct.descriptor, q.cache, 0),
+        None => {
+            let cache = keep_hint(q.cache, setting.hints);
+            (setting.descriptor, cache, cache_flag(cache))
+        }
     };
-    Staged {
-        request: Request::ReadAt(q),
-        submission,
-    }
-}
-
-pub(crate) fn build_buffered(q: ReadAtRequest, setting: Setting) -> Staged
-    ensures { result ≡ buffered_built q setting }
-{
-    let cache = keep_hint(q.cache, setting.hints);
-    let left = q.buffer.length.saturating_sub(q.read);
     let submission = Submission {
-        opcode: READ,
-        descriptor: setting.descriptor,
+        opcode: Opcode::Read.into(),
+        descriptor,
         offset: q.offset.saturating_add(q.read),
         place: q.buffer.place.saturating_add(q.read),
-        length: left.min(4294967295) as u32,
-        flags: cache_flag(cache),
+        length: q.bytes_submitted(),
+        flags,
         token: setting.token,
     };
     Staged {
         request: Request::ReadAt(ReadAtRequest { cache, ..q }),
         submission,
-    }
-}
-
-pub(crate) fn build_read(q: ReadAtRequest, setting: Setting) -> Staged
-    ensures { result ≡ read_built q setting }
-{
-    match q.direct {
-        Some(direct) => build_direct(q, direct, setting),
-        None => build_buffered(q, setting),
     }
 }
 
@@ -221,13 +188,13 @@ pub(crate) fn build_bytes(
     table: &[ChunkRow],
     iovecs: &mut [Iovec],
 ) -> Result<Staged, Denial>
-    ensures answer { result ≡ bytes_built q setting (part_of table.now q.write 23 setting.list iovecs.old) }
+    ensures answer { result ≡ bytes_built q setting (part_of table.now q.write Opcode.Write setting.list iovecs.old) }
     ensures list { iovecs.new ≡ part_list table.now q.write iovecs.old }
 {
-    let part = part_of_write(table, q.write, WRITE, setting.list, iovecs)?;
+    let part = part_of_write(table, q.write, Opcode::Write, setting.list, iovecs)?;
     let cache = keep_hint(q.cache, setting.hints);
     let submission = Submission {
-        opcode: part.opcode,
+        opcode: part.opcode.into(),
         descriptor: setting.descriptor,
         offset: q.offset.saturating_add(q.write.done()),
         place: part.place,
