@@ -19,6 +19,11 @@ use Rattle.runs.specs.declared.transfer.Standing.TheVariants.{Queued, InFlight, 
 use Rattle.runs.specs.declared.transfer.Transfer.{Transfer}
 use Rattle.runs.specs.Runs.{stands}
 
+abbrev pub standing_request : Standing → Request
+standing_request (Queued q) = q
+standing_request (InFlight q) = q
+standing_request (Ended q o) = q
+
 -- the same transfer, standing elsewhere
 abbrev pub left_at : Transfer → Standing → Transfer
 left_at t p = record { wanted = t.wanted; standing = p }

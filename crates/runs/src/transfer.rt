@@ -1,6 +1,6 @@
 //! One transfer: its calls keep its record, and so the laws.
 ghost use Rattle.std.specs.Prelude.{◌≡◌};
-ghost use Rattle.runs.specs.Calls.{begin_answer, submit_answer, submit_after, submit_list, complete_answer, complete_after, left_at};
+ghost use Rattle.runs.specs.Calls.{begin_answer, submit_answer, submit_after, submit_list, complete_answer, complete_after, left_at, standing_request};
 ghost use Rattle.runs.specs.Recorded.{BeginRecorded, SubmitRecorded, CompleteRecorded};
 
 use cqe::{Step, on_cqe};
@@ -15,6 +15,18 @@ pub enum Standing {
     Queued(Request),
     InFlight(Request),
     Ended(Request, Outcome),
+}
+
+/// The request, wherever it stands.
+impl From<Standing> for Request {
+    ghost from_gives = { λ standing request. request ≡ standing_request standing };
+
+    fn from(standing: Standing) -> Request {
+        match standing {
+            Standing::Queued(request) | Standing::InFlight(request) => request,
+            Standing::Ended(request, _) => request,
+        }
+    }
 }
 
 /// A transfer on its own: what was wanted, and where it stands.

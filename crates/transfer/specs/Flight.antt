@@ -4,20 +4,13 @@ use Rattle.records.specs.declared.denial.Denial.{Denial}
 use Rattle.records.specs.declared.submission.Submission.{Submission}
 use Rattle.records.specs.declared.waiter.WaiterState.TheVariants.{Active, CancelRequested}
 use Rattle.records.specs.declared.outcome.Outcome.{Outcome}
-use Rattle.request.specs.declared.kinds.Request.{Request}
 use Rattle.cqe.specs.declared.step.Step.{Step}
 use Rattle.sqe.specs.declared.Setting.{Setting}
 use Rattle.runs.specs.declared.transfer.Standing.{Standing}
-use Rattle.runs.specs.declared.transfer.Standing.TheVariants.{Queued, InFlight, Ended}
 use Rattle.runs.specs.declared.transfer.Transfer.{Transfer}
 use Rattle.runs.specs.Calls.{submit_answer, submit_after, complete_answer, complete_after, left_at}
 use Rattle.transfer.specs.declared.play.Player.{Player}
 use Rattle.transfer.specs.declared.play.Running.{Running}
-
-abbrev pub standing_request : Standing → Request
-standing_request (Queued q) = q
-standing_request (InFlight q) = q
-standing_request (Ended q o) = q
 
 -- the same run, with its transfer standing elsewhere
 abbrev pub moved_to : Running → Standing → Running

@@ -213,11 +213,9 @@ pub(crate) fn is_skipped(line: &str) -> bool {
 
 /// The item of a line; none where it cannot be read.
 pub(crate) fn read_line(heap: Global, line: &str) -> Result<Option<Item>, AllocError> {
-    let mut words = Vec::new(heap);
-    for word in line.split(' ') {
-        if !word.is_empty() {
-            words.push(word)?;
-        }
-    }
+    let words: Vec<&str> = line
+        .split(' ')
+        .filter(|word| !word.is_empty())
+        .collect(heap)?;
     Ok(parse_item(words.as_slice()))
 }

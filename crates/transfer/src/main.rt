@@ -5,7 +5,6 @@ mod fault;
 mod input;
 mod play;
 mod show;
-mod words;
 
 use crate::fault::Fault;
 use crate::play::play_text;

@@ -4,16 +4,15 @@ mod tests;
 
 ghost use Rattle.std.specs.Prelude.{◌≡◌, ◌≤◌, true, false, [], ◌∷◌, ◌++◌, is_some, is_ok, None, vec_len};
 ghost use Rattle.runs.specs.Calls.{begin_answer};
-ghost use Rattle.transfer.specs.Flight.{standing_request, submitted, began, cancelled, marked, step_followed, completed};
+ghost use Rattle.transfer.specs.Flight.{submitted, began, cancelled, marked, step_followed, completed};
 
 use crate::fault::Fault;
 use crate::input::{Item, is_skipped, read_line};
 use crate::show::{show_completion, show_end, show_misfit, show_refusal, show_submission};
-use crate::words::Told;
-use cqe::{Step, Verdict, classify};
+use cqe::{Step, classify};
 use records::{ChunkRow, Iovec, WaiterState};
 use request::{Request, Wanted};
-use runs::{Standing, Transfer};
+use runs::Transfer;
 use sqe::Setting;
 use std::alloc::{AllocError, Global};
 use std::io;
@@ -39,16 +38,6 @@ struct Player {
     /// Its token is that of the next transfer: the running one keeps its own.
     setting: Setting,
     running: Option<Running>,
-}
-
-fn request_of(standing: Standing) -> Request
-    ensures { result ≡ standing_request standing }
-{
-    match standing {
-        Standing::Queued(request) => request,
-        Standing::InFlight(request) => request,
-        Standing::Ended(request, _) => request,
-    }
 }
 
 impl Player {
@@ -141,7 +130,7 @@ impl Player {
         self.leave(rt)?;
         match Transfer::begin(wanted, self.table.as_slice()) {
             Ok(transfer) => {
-                println!(rt; "granted: {}", Told(request_of(transfer.standing())))?;
+                println!(rt; "granted: {}", Request::from(transfer.standing()))?;
                 let token = self.setting.token;
                 self.submit(
                     rt,
@@ -177,9 +166,9 @@ impl Player {
         if step.unsupported {
             self.setting.hints = false;
         }
-        match step.verdict {
-            Verdict::GoesOn => self.submit(rt, running),
-            Verdict::Ends(outcome) => {
+        match step.outcome {
+            None => self.submit(rt, running),
+            Some(outcome) => {
                 self.running = None;
                 show_end(rt, step.request, outcome)
             }
@@ -193,7 +182,7 @@ impl Player {
         let Some(running) = self.running else {
             return Err(Fault::Unreadable);
         };
-        let before = request_of(running.transfer.standing());
+        let before = Request::from(running.transfer.standing());
         let mut transfer = running.transfer;
         match transfer.complete(self.table.as_slice(), running.state, res) {
             Ok(step) => {
@@ -240,9 +229,7 @@ impl Player {
 /// Plays a text; the number of the line that cannot be read, if any.
 pub(crate) fn play_text(rt: &HostRuntime, text: &str) -> io::Result<Option<usize>> {
     let mut player = Player::new(rt.alloc())?;
-    let mut number: usize = 0;
-    for line in text.lines() {
-        number = number.saturating_add(1);
+    for (number, line) in (1usize..).zip(text.lines()) {
         match player.play_line(rt, line) {
             Ok(()) => {}
             Err(Fault::Io(e)) => return Err(e),

@@ -2,30 +2,36 @@
 ghost use Rattle.std.specs.Prelude.{◌≡◌};
 ghost use Rattle.transfer.specs.Direct.{reads_direct, gives_up};
 
-use crate::words::{Hex, Told};
-use cqe::{CqeResult, Step, Verdict};
-use records::{Denial, Iovec, Outcome, Submission};
+use cqe::{CqeResult, Step};
+use records::{Denial, Iovec, Opcode, Outcome, Submission};
 use request::Request;
-use std::io;
-
-const WRITEV: u8 = 2;
+use std::{fmt, io};
 
 /// A longer list is shown by its ends.
 const MOST_SHOWN: usize = 8;
 
 const FIRST_SHOWN: usize = 3;
 
+/// Bytes as a submission's line shows them.
+#[derive(Clone, Copy)]
+struct Hex([u8; 64]);
+
+impl fmt::Display for Hex {
+    fn fmt<W: fmt::Write>(&self, f: &mut fmt::Formatter<W>) -> fmt::Result {
+        for byte in self.0 {
+            write!(f, "{byte:02x}")?;
+        }
+        Ok(())
+    }
+}
+
 pub(crate) fn show_refusal(rt: &HostRuntime, denial: Denial) -> io::Result<()> {
-    println!(rt; "refused {}: {}", denial.number(), Told(denial))
+    println!(rt; "refused {}: {denial}", denial.number())
 }
 
 /// The submission in flight stays as it was.
 pub(crate) fn show_misfit(rt: &HostRuntime, res: i32, denial: Denial) -> io::Result<()> {
-    println!(rt;
-        "completion {res}: refused {}, {}",
-        denial.number(),
-        Told(denial)
-    )
+    println!(rt; "completion {res}: refused {}, {denial}", denial.number())
 }
 
 fn is_direct(request: Request) -> bool
@@ -38,11 +44,11 @@ fn is_direct(request: Request) -> bool
 }
 
 fn gives_up_direct(before: Request, step: Step) -> bool
-    ensures { result ≡ gives_up before step.request step.verdict }
+    ensures { result ≡ gives_up before step.request step.outcome }
 {
-    match step.verdict {
-        Verdict::GoesOn => is_direct(before) && !is_direct(step.request),
-        Verdict::Ends(_) => false,
+    match step.outcome {
+        None => is_direct(before) && !is_direct(step.request),
+        Some(_) => false,
     }
 }
 
@@ -55,18 +61,18 @@ pub(crate) fn show_completion(
 ) -> io::Result<()> {
     print!(rt; "completion {res}: ")?;
     if let Some(class) = class {
-        print!(rt; "{}, ", Told(class))?;
+        print!(rt; "{class}, ")?;
     }
     if gives_up_direct(before, step) {
         print!(rt; "gives up direct reading, ")?;
     }
-    rt.println(Told(step))
+    rt.println(step)
 }
 
 pub(crate) fn show_end(rt: &HostRuntime, request: Request, outcome: Outcome) -> io::Result<()> {
     let (output, resources) = request.complete(outcome);
-    println!(rt; "result: {}", Told(output))?;
-    println!(rt; "held: {}", Told(resources))
+    println!(rt; "result: {output}")?;
+    println!(rt; "held: {resources}")
 }
 
 fn show_iovecs(rt: &HostRuntime, iovecs: &[Iovec]) -> io::Result<()> {
@@ -99,7 +105,7 @@ pub(crate) fn show_submission(
     shown?;
     println!(rt; "  {}", Hex(bytes))?;
     match iovecs.get(0..length as usize) {
-        Some(carried) if opcode == WRITEV => show_list(rt, carried),
+        Some(carried) if opcode == u8::from(Opcode::Writev) => show_list(rt, carried),
         _ => Ok(()),
     }
 }
