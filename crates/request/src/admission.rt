@@ -1,8 +1,9 @@
 //! Which requests are taken, and in which state they begin.
-ghost use Rattle.std.specs.Prelude.{◌≡◌, ◌≤◌};
+ghost use Rattle.std.specs.Prelude.{◌≡◌};
 ghost use Rattle.records.specs.Limits.{descriptor_limits};
-ghost use Rattle.request.specs.Admission.{begun, range_limits, superset_start, superset_length, direct_begun, admitted, send_begun, recv_begun, read_begun, write_begun};
+ghost use Rattle.request.specs.Admission.{begun, direct_begun, admitted, send_begun, recv_begun, read_begun, write_begun};
 
+use crate::file_range::{BLOB_PAGE_SIZE, FileRange, LAST_OFFSET};
 use crate::kinds::{
     Direct, ReadAtRequest, RecvRequest, Request, SendRequest, SyncRequest, Wanted, WriteAtRequest,
 };
@@ -11,11 +12,6 @@ use records::{
     WriteMode, ends_below_top, is_descriptor, is_few_bytes,
 };
 use rows::rows_total;
-
-/// Direct reads begin and end at multiples of this.
-pub(crate) const BLOB_PAGE_SIZE: u64 = 4096;
-
-const LAST_OFFSET: u64 = 9223372036854775807;
 
 // A source with nothing reported, where it keeps its limits.
 pub(crate) fn begin_write(table: &[ChunkRow], source: Source) -> Option<WriteBuffers>
@@ -44,28 +40,6 @@ pub(crate) fn begin_write(table: &[ChunkRow], source: Source) -> Option<WriteBuf
             }))
         }
     }
-}
-
-// Whether bytes of a file are few enough and end at a possible offset.
-pub(crate) fn is_file_range(offset: u64, length: u64) -> bool
-    ensures { result ≡ range_limits offset length }
-{
-    is_few_bytes(length) && offset <= LAST_OFFSET && offset + length <= LAST_OFFSET
-}
-
-// Where the pages that hold a range begin.
-pub(crate) fn superset_start(offset: u64) -> u64
-    ensures { result ≡ superset_start offset }
-{
-    offset - offset % BLOB_PAGE_SIZE
-}
-
-// How long they are.
-pub(crate) fn superset_length(offset: u64, length: u64) -> u64
-    requires { length ≤ 1099511627776 }
-    ensures { result ≡ superset_length offset length }
-{
-    (offset % BLOB_PAGE_SIZE + length + BLOB_PAGE_SIZE - 1) / BLOB_PAGE_SIZE * BLOB_PAGE_SIZE
 }
 
 pub(crate) fn admit_send(
@@ -114,7 +88,11 @@ pub(crate) fn admit_read(
 ) -> Result<Request, Denial>
     ensures { result ≡ read_begun file offset buffer cache }
 {
-    if !buffer.is_within_limits() || !is_file_range(offset, buffer.length) {
+    let range = FileRange {
+        offset,
+        length: buffer.length,
+    };
+    if !buffer.is_within_limits() || !range.is_within_limits() {
         return Err(Denial::LimitBroken);
     }
     Ok(Request::ReadAt(ReadAtRequest {
@@ -137,29 +115,26 @@ pub(crate) fn admit_direct(
 ) -> Result<Request, Denial>
     ensures { result ≡ direct_begun file descriptor offset length place capacity }
 {
-    if !is_descriptor(descriptor)
-        || !ends_below_top(place, capacity)
-        || !is_file_range(offset, length)
-    {
+    let range = FileRange { offset, length };
+    if !is_descriptor(descriptor) || !ends_below_top(place, capacity) || !range.is_within_limits() {
         return Err(Denial::LimitBroken);
     }
-    let start = superset_start(offset);
-    let whole = superset_length(offset, length);
+    let whole = range.superset();
     if length == 0
-        || start + whole > LAST_OFFSET
+        || whole.offset + whole.length > LAST_OFFSET
         || place % BLOB_PAGE_SIZE != 0
-        || capacity < whole
+        || capacity < whole.length
     {
         return Err(Denial::UnfitForDirect);
     }
     Ok(Request::ReadAt(ReadAtRequest {
         file,
-        offset: start,
+        offset: whole.offset,
         read: 0,
         buffer: Buffer {
             place,
             capacity,
-            length: whole,
+            length: whole.length,
         },
         cache: Cache::Disabled,
         direct: Some(Direct {
@@ -181,7 +156,11 @@ pub(crate) fn admit_write(
     ensures { result ≡ write_begun file offset mode cache (begun table.now source) }
 {
     let write = begin_write(table, source).ok_or(Denial::LimitBroken)?;
-    if !is_file_range(offset, write.length()) {
+    let range = FileRange {
+        offset,
+        length: write.length(),
+    };
+    if !range.is_within_limits() {
         return Err(Denial::LimitBroken);
     }
     Ok(Request::WriteAt(WriteAtRequest {

@@ -3,6 +3,7 @@
 
 pub mod admission;
 pub mod complete;
+pub(crate) mod file_range;
 pub mod kinds;
 pub mod progress;
 pub mod words;
