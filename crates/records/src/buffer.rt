@@ -34,6 +34,8 @@ pub fn ends_below_top(place: u64, bytes: u64) -> bool
     place <= 140737488355328 && bytes <= 140737488355328 - place
 }
 
+// These limits differ in a number alone, but a name each says whose limit it is.
+
 /// Whether a request may move so many bytes.
 pub fn is_few_bytes(bytes: u64) -> bool
     ensures { result ≡ few_bytes bytes }

@@ -27,7 +27,7 @@ pub enum Denial {
 }
 
 impl Denial {
-    // No `From`: a number alone would lose the value beside it.
+    // Not `From`: the number alone loses the value beside it.
     pub fn number(self) -> u32
         ensures { result ≡ denial_number self }
     {

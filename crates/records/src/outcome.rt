@@ -26,6 +26,7 @@ pub enum Outcome {
 }
 
 impl Outcome {
+    // Not `From`: of an error the number alone loses the code.
     pub fn number(self) -> u32
         ensures { result ≡ outcome_number self }
     {
@@ -84,6 +85,7 @@ impl fmt::Display for Outcome {
 }
 
 /// What a granted completion asks of the driver.
+// Both cases name a waiter and say what is to be done with it; a pair of a waiter and an `Option` would be no plainer.
 #[derive(Clone, Copy)]
 pub enum CompletionOutcome {
     /// Another submission is wanted.
@@ -93,6 +95,7 @@ pub enum CompletionOutcome {
 }
 
 impl CompletionOutcome {
+    // Not `From`: the number alone loses the waiter and the result.
     pub fn number(self) -> u32
         ensures { result ≡ completion_number self }
     {
@@ -134,6 +137,7 @@ pub enum Observation {
 }
 
 impl Observation {
+    // Not `From`: the number alone loses the output.
     pub fn number(self) -> u32
         ensures { result ≡ observation_number self }
     {

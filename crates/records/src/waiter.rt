@@ -3,6 +3,7 @@ ghost use Rattle.std.specs.Prelude.{◌≡◌};
 ghost use Rattle.records.specs.States.{cancel_granted};
 
 /// Lifecycle of a pending waiter.
+// Two states with names of their own; an `Option` of an `Option` would be no plainer.
 #[derive(Clone, Copy)]
 pub enum WaiterState {
     Active { tick: Option<u64> },
