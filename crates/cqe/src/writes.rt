@@ -6,7 +6,7 @@ use crate::result::CqeResult;
 use crate::step::{Step, Verdict};
 use records::{Cache, ChunkRow, Outcome, RowsWrite, SingleWrite, WriteAtState, WriteBuffers};
 use request::{Request, SendRequest, WriteAtRequest};
-use rows::advance;
+use rows::Rows;
 
 // A write with more bytes reported.
 pub(crate) fn move_on(table: &[ChunkRow], write: WriteBuffers, bytes: u32) -> WriteBuffers
@@ -20,7 +20,7 @@ pub(crate) fn move_on(table: &[ChunkRow], write: WriteBuffers, bytes: u32) -> Wr
             })
         }
         WriteBuffers::Rows(rows) => WriteBuffers::Rows(RowsWrite {
-            cursor: advance(table, rows.first, rows.count, rows.cursor, bytes as u64),
+            cursor: Rows::new(table, rows.first, rows.count).advance(rows.cursor, bytes as u64),
             done: rows.done.saturating_add(bytes as u64),
             ..rows
         }),

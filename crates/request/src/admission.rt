@@ -10,7 +10,7 @@ use records::{
     Buffer, Cache, ChunkRow, Cursor, Denial, FileId, RowsWrite, SingleWrite, Source, WriteBuffers,
     WriteMode, ends_below_top, is_descriptor, is_few_bytes,
 };
-use rows::rows_total;
+use rows::Rows;
 
 /// Direct reads begin and end at multiples of this.
 pub(crate) const BLOB_PAGE_SIZE: u64 = 4096;
@@ -33,7 +33,7 @@ pub(crate) fn begin_write(table: &[ChunkRow], source: Source) -> Option<WriteBuf
             }))
         }
         Source::Rows { first, count } => {
-            let Some(length) = rows_total(table, first, count) else {
+            let Some(length) = Rows::admitted_total(table, first, count) else {
                 return None;
             };
             let cursor = Cursor { row: 0, within: 0 };

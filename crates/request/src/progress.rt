@@ -4,7 +4,7 @@ ghost use Rattle.request.specs.Progress.{bytes_to_move, bytes_submitted, write_s
 
 use crate::kinds::{ReadAtRequest, Request};
 use records::{ChunkRow, WriteAtState, WriteBuffers};
-use rows::carried_bytes;
+use rows::Rows;
 
 /// The length of a submission is 32 bits.
 const MOST_SUBMITTED: u64 = 4294967295;
@@ -21,7 +21,9 @@ pub(crate) fn submitted_of_write(table: &[ChunkRow], write: WriteBuffers) -> u64
             .length
             .saturating_sub(single.done)
             .min(MOST_SUBMITTED),
-        WriteBuffers::Rows(rows) => carried_bytes(table, rows.first, rows.count, rows.cursor),
+        WriteBuffers::Rows(rows) => Rows::new(table, rows.first, rows.count).carried_bytes(
+            rows.cursor,
+        ),
     }
 }
 

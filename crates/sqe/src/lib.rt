@@ -6,7 +6,7 @@ ghost use Rattle.sqe.specs.Building.{kept_hint, hint_flag, sync_flag, part_of, p
 
 use records::{Cache, ChunkRow, Denial, Iovec, Submission, WriteAtState, WriteBuffers};
 use request::{Direct, ReadAtRequest, RecvRequest, Request, SendRequest, WriteAtRequest};
-use rows::fill_iovecs;
+use rows::Rows;
 
 const WRITEV: u8 = 2;
 
@@ -89,7 +89,7 @@ pub(crate) fn part_of_write(
             length: single.length.saturating_sub(single.done).min(4294967295) as u32,
         }),
         WriteBuffers::Rows(rows) => {
-            let count = fill_iovecs(table, rows.first, rows.count, rows.cursor, iovecs)?;
+            let count = Rows::new(table, rows.first, rows.count).fill_iovecs(rows.cursor, iovecs)?;
             Ok(Part {
                 opcode: WRITEV,
                 place: list,
