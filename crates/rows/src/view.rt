@@ -12,7 +12,7 @@ const TABLE_ROWS: usize = 65536;
 /// The kernel takes no more iovecs at once (IOV_MAX).
 const IOVEC_BATCH_SIZE: usize = 1024;
 
-/// The rows of one write, in their order.
+/// The rows of one write, lent from the chunk table; those behind its first 65,536 are left out.
 #[derive(Drop)]
 pub struct Rows<'a> {
     rows: &'a [ChunkRow],
