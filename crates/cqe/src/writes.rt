@@ -7,7 +7,7 @@ use crate::result::{CqeResult, ECANCELED, EOPNOTSUPP};
 use crate::step::Step;
 use records::{Cache, ChunkRow, Outcome, RowsWrite, SingleWrite, WriteAtState, WriteBuffers};
 use request::{Request, SendRequest, WriteAtRequest};
-use rows::advance;
+use rows::Rows;
 
 // A write with more bytes reported.
 pub(crate) fn move_on(table: &[ChunkRow], write: WriteBuffers, bytes: u32) -> WriteBuffers
@@ -21,7 +21,7 @@ pub(crate) fn move_on(table: &[ChunkRow], write: WriteBuffers, bytes: u32) -> Wr
             })
         }
         WriteBuffers::Rows(rows) => WriteBuffers::Rows(RowsWrite {
-            cursor: advance(table, rows.first, rows.count, rows.cursor, bytes as u64),
+            cursor: Rows::new(table, rows.first, rows.count).advance(rows.cursor, bytes as u64),
             done: rows.done.saturating_add(bytes as u64),
             ..rows
         }),

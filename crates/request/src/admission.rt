@@ -11,7 +11,7 @@ use records::{
     Buffer, Cache, ChunkRow, Cursor, Denial, FileId, RowsWrite, SingleWrite, Source, WriteBuffers,
     WriteMode, ends_below_top, is_descriptor, is_few_bytes,
 };
-use rows::rows_total;
+use rows::Rows;
 
 // A source with nothing reported, where it keeps its limits.
 pub(crate) fn begin_write(table: &[ChunkRow], source: Source) -> Option<WriteBuffers>
@@ -29,7 +29,7 @@ pub(crate) fn begin_write(table: &[ChunkRow], source: Source) -> Option<WriteBuf
             }))
         }
         Source::Rows { first, count } => {
-            let length = rows_total(table, first, count)?;
+            let length = Rows::admitted_total(table, first, count)?;
             let cursor = Cursor { row: 0, within: 0 };
             Some(WriteBuffers::Rows(RowsWrite {
                 first,

@@ -4,7 +4,7 @@ ghost use Rattle.request.specs.Progress.{bytes_to_move, bytes_submitted, write_s
 
 use crate::kinds::{ReadAtRequest, RecvRequest, Request};
 use records::{ChunkRow, WriteAtState, WriteBuffers, submission_length};
-use rows::carried_bytes;
+use rows::Rows;
 
 /// What the kernel moves at once, in whole pages.
 const DIRECT_CHUNK: u64 = 2147479552;
@@ -15,7 +15,9 @@ pub(crate) fn submitted_of_write(table: &[ChunkRow], write: WriteBuffers) -> u64
 {
     match write {
         WriteBuffers::Single(single) => single.bytes_submitted().into(),
-        WriteBuffers::Rows(rows) => carried_bytes(table, rows.first, rows.count, rows.cursor),
+        WriteBuffers::Rows(rows) => {
+            Rows::new(table, rows.first, rows.count).carried_bytes(rows.cursor)
+        }
     }
 }
 

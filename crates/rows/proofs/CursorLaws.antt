@@ -1,19 +1,11 @@
 -- A cursor and the bytes before it.
 use Rattle.std.proofs.Common.{◌≡◌, ℕ, zero, suc, ◌+◌, ◌-◌, ◌<◌, ◌≤◌, min, true, false, ltb, List, [], ◌∷◌, take, drop, sym, refl, ap, ◌∙◌, arith}
 use Rattle.std.proofs.lemmas.Bool.{cond_both, ltb-true, ltb-false, lt-ltb, le-ltb}
+use Rattle.std.proofs.lemmas.List.{drop-drop}
 use Rattle.records.specs.declared.buffer.ChunkRow.{ChunkRow}
 use Rattle.records.specs.declared.write.Cursor.{Cursor}
-use Rattle.rows.specs.Vectors.{range, carried, total, iovec_of, iovecs_of, iovec_bytes, along}
+use Rattle.rows.specs.Vectors.{range, carried, carried_in, total, iovec_of, iovecs_of, iovec_bytes, along}
 use Rattle.rows.specs.Laws.{Sound, before, Inside, Stands, left_after, CursorLaws}
-use Rattle.rows.proofs.Lists.{drop_step}
-
--- a row further
-total_step : (v : List ChunkRow) (c : ℕ) (r : ChunkRow) (rs : List ChunkRow) → drop c v ≡ r ∷ rs → total (take (suc c) v) ≡ total (take c v) + r.length
-unfolding total
-total_step [] zero r rs e = cc
-total_step [] (suc c) r rs e = cc
-total_step (x ∷ xs) zero r rs e = let z : x ≡ r = cc in let l : x.length ≡ r.length = ap (λ q. q.length) z in omega (arith, l)
-total_step (x ∷ xs) (suc c) r rs e = let i = total_step xs c r rs e in omega (arith, i)
 
 total_split : (v : List ChunkRow) (c : ℕ) → total (take c v) + total (drop c v) ≡ total v
 unfolding total
@@ -30,6 +22,10 @@ pub inside_none : (q : List ChunkRow) → Sound q → Inside q 0
 inside_none [] s = refl
 inside_none (x ∷ xs) s = s.0
 
+-- the rows behind the first
+next_rows : (v rs : List ChunkRow) (c : ℕ) (r : ChunkRow) → drop c v ≡ r ∷ rs → drop (c + 1) v ≡ rs
+next_rows v rs c r d = sym (drop-drop 1 c v) ∙ ap (drop 1) d
+
 moved : (v rs : List ChunkRow) (c o n : ℕ) → drop c v ≡ rs → Sound rs → Inside rs o → o + n ≤ total rs →
     before v (along rs c o n) ≡ total (take c v) + o + n
 unfolding along total
@@ -38,12 +34,13 @@ moved v (r ∷ rs) c o n d ok h b =
     cond_both (ltb n (r.length - o)) _ _ (λ k. before v k ≡ total (take c v) + o + n)
     (λ e. omega arith)
     (λ e. let l = ltb-false _ _ e in
-    let s : suc c ≡ c + 1 = omega arith in
-    let t = total_step v c r rs d in
-    let w : total (take (c + 1) v) ≡ total (take c v) + r.length = sym (ap (λ k. total (take k v)) s) ∙ t in
-    let u : drop (c + 1) v ≡ rs = sym (ap (λ k. drop k v) s) ∙ drop_step v c r rs d in
+    let u = next_rows v rs c r d in
+    let w = ap total d in
+    let w' = ap total u in
+    let s = total_split v c in
+    let t = total_split v (c + 1) in
     let i = moved v rs (c + 1) 0 (n - (r.length - o)) u ok.2 (inside_none rs ok.2) (omega (arith, l, h, b)) in
-    omega (arith, i, w, l, h))
+    omega (arith, i, s, t, w, w', l, h))
 
 stays : (v rs : List ChunkRow) (c o n : ℕ) → drop c v ≡ rs → Sound rs → Inside rs o → Inside (drop (along rs c o n).row v) (along rs c o n).within
 unfolding along
@@ -51,9 +48,7 @@ stays v [] c o n d ok h = rw d h
 stays v (r ∷ rs) c o n d ok h =
     cond_both (ltb n (r.length - o)) _ _ (λ (k : Cursor). Inside (drop k.row v) k.within)
     (λ e. let l = ltb-true _ _ e in let g : Inside (r ∷ rs) (o + n) = omega (arith, l, h) in rw d g)
-    (λ e. let s : suc c ≡ c + 1 = omega arith in
-    let u : drop (c + 1) v ≡ rs = sym (ap (λ k. drop k v) s) ∙ drop_step v c r rs d in
-    stays v rs (c + 1) 0 (n - (r.length - o)) u ok.2 (inside_none rs ok.2))
+    (λ e. stays v rs (c + 1) 0 (n - (r.length - o)) (next_rows v rs c r d) ok.2 (inside_none rs ok.2))
 
 -- iovecs of rows that hold their offset
 
@@ -79,7 +74,7 @@ inside_take k (x ∷ xs) o h = h
 
 fits_in : (table : List ChunkRow) (f n : ℕ) (c : Cursor) → Stands (range table f n) c →
     before (range table f n) c + iovec_bytes (iovecs_of c.within (carried table f n c.row)) ≤ total (range table f n)
-unfolding carried
+unfolding carried_in
 fits_in table f n c h =
     let a = short (take 1024 (drop c.row (range table f n))) c.within (inside_take 1023 (drop c.row (range table f n)) c.within h) in
     let b = total_take 1024 (drop c.row (range table f n)) in
@@ -113,7 +108,7 @@ past (x ∷ xs) (suc c) o =
 
 carry : (table : List ChunkRow) (f n : ℕ) (c : Cursor) → Sound (range table f n) → Stands (range table f n) c →
     iovecs_of c.within (carried table f n c.row) ≡ take 1024 (left_after (before (range table f n) c) (range table f n))
-unfolding carried
+unfolding carried_in
 carry table f n c ok h =
     cut 1024 (drop c.row (range table f n)) c.within (sound_drop (range table f n) c.row ok) h
     ∙ sym (ap (take 1024) (past (range table f n) c.row c.within))

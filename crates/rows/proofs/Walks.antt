@@ -1,101 +1,84 @@
 -- A step and the end of each walk over rows.
-use Rattle.std.proofs.Common.{◌≡◌, ℕ, suc, ◌+◌, ◌-◌, ◌<◌, ◌≤◌, min, true, cond, ◌&&◌, ltb, List, [], ◌∷◌, ◌++◌, length, take, drop, set, Some, None, refl, ap, ◌∙◌, arith}
-use native.Mathlib.Numerals.{unary_clauses}
-use Rattle.std.proofs.lemmas.List.{drop_all, length-take, length-drop}
-use Rattle.std.specs.List.{slice_get}
+use Rattle.std.proofs.Common.{◌≡◌, ℕ, ◌+◌, ◌-◌, ◌<◌, ◌≤◌, min, true, cond, ◌&&◌, ltb, List, [], ◌∷◌, ◌++◌, length, take, drop, set, get_or, fold, Some, None, refl, sym, ap, ◌∙◌, append_assoc, arith}
+use Rattle.std.proofs.lemmas.List.{at_drop_more, at_drop_all, take_more_set, take-append-drop, append-nil}
+use Rattle.std.proofs.lemmas.Bool.Decides.{nat_tests}
+use Rattle.std.proofs.lemmas.Option.{cond_some}
 use Rattle.records.specs.Limits.{row_limits}
 use Rattle.records.specs.declared.buffer.ChunkRow.{ChunkRow}
 use Rattle.records.specs.declared.buffer.Iovec.{Iovec}
-use Rattle.rows.specs.Vectors.{range, carried, all_within, total, iovec_of, iovecs_of, iovec_bytes, along}
-use Rattle.rows.proofs.Lists.{nth_drop, nth_take, nth_take_past, drop_some, drop_none}
+use Rattle.rows.specs.Vectors.{all_within, total, iovec_of, iovecs_of, iovec_bytes, stop_in, along}
 
--- the rows of a write
+-- what a walk reads at an index past the end
+abbrev pub blank : ChunkRow
+blank = record { place = 0; length = 0 }
 
-pub range_at : (table : List ChunkRow) (f n i : ℕ) → i < n → f + i < 65536 → slice_get (range table f n) i ≡ slice_get table (f + i)
-unfolding range
-range_at table f n i h k = nth_take n (drop f (take 65536 table)) i h ∙ nth_drop f (take 65536 table) i ∙ nth_take 65536 table (f + i) k
+-- the sum of an admission
 
-pub range_past : (table : List ChunkRow) (f n i : ℕ) → n ≤ i → slice_get (range table f n) i ≡ None
-unfolding range
-range_past table f n i h = nth_take_past n (drop f (take 65536 table)) i h
-
-pub range_beyond : (table : List ChunkRow) (f n i : ℕ) → i < n → 65536 ≤ f + i → slice_get (range table f n) i ≡ None
-unfolding range
-range_beyond table f n i h k = nth_take n (drop f (take 65536 table)) i h ∙ nth_drop f (take 65536 table) i ∙ nth_take_past 65536 table (f + i) k
-
-pub range_length : (table : List ChunkRow) (f n : ℕ) → length (range table f n) ≡ min n (min 65536 (length table) - f)
-unfolding range
-range_length table f n = length-take n (drop f (take 65536 table)) ∙ ap (min n) (length-drop f (take 65536 table) ∙ ap (λ k. k - f) (length-take 65536 table))
-
-pub carried_at : (table : List ChunkRow) (f n c i : ℕ) → i < 1024 → slice_get (carried table f n c) i ≡ slice_get (range table f n) (c + i)
-unfolding carried
-carried_at table f n c i h = nth_take 1024 (drop c (range table f n)) i h ∙ nth_drop c (range table f n) i
-
-pub carried_past : (table : List ChunkRow) (f n c i : ℕ) → 1024 ≤ i → slice_get (carried table f n c) i ≡ None
-unfolding carried
-carried_past table f n c i h = nth_take_past 1024 (drop c (range table f n)) i h
-
-pub carried_length : (table : List ChunkRow) (f n c : ℕ) → length (carried table f n c) ≡ min 1024 (min n (min 65536 (length table) - f) - c)
-unfolding carried
-carried_length table f n c = length-take 1024 (drop c (range table f n)) ∙ ap (min 1024) (length-drop c (range table f n) ∙ ap (λ k. k - c) (range_length table f n))
-
--- a step and the end of each walk
-
-pub good_at : (v : List ChunkRow) (i : ℕ) (r : ChunkRow) → slice_get v i ≡ Some r → all_within (drop i v) ≡ (row_limits r && all_within (drop (i + 1) v))
+pub good_at : (v : List ChunkRow) (i : ℕ) → i < length v → all_within (drop i v) ≡ (row_limits (get_or v i blank) && all_within (drop (i + 1) v))
 unfolding all_within
-good_at v i r e = ap all_within (drop_some v i r e)
+good_at v i h = at_drop_more all_within v i blank h
 
 pub good_end : (v : List ChunkRow) (i : ℕ) → length v ≤ i → all_within (drop i v) ≡ true
 unfolding all_within
-good_end v i h = ap all_within (drop_all i v h)
+good_end v i h = at_drop_all all_within v i h
 
-pub total_at : (v : List ChunkRow) (i : ℕ) (r : ChunkRow) → slice_get v i ≡ Some r → total (drop i v) ≡ r.length + total (drop (i + 1) v)
+pub total_at : (v : List ChunkRow) (i : ℕ) → i < length v → total (drop i v) ≡ (get_or v i blank).length + total (drop (i + 1) v)
 unfolding total
-total_at v i r e = ap total (drop_some v i r e)
+total_at v i h = at_drop_more total v i blank h
 
 pub total_end : (v : List ChunkRow) (i : ℕ) → length v ≤ i → total (drop i v) ≡ 0
 unfolding total
-total_end v i h = ap total (drop_all i v h)
+total_end v i h = at_drop_all total v i h
 
-pub along_at : (v : List ChunkRow) (c o n : ℕ) (r : ChunkRow) → slice_get v c ≡ Some r →
-    along (drop c v) c o n ≡ cond (ltb n (r.length - o)) (record { row = c; within = o + n }) (along (drop (c + 1) v) (c + 1) 0 (n - (r.length - o)))
-unfolding along
-along_at v c o n r e = ap (λ rs. along rs c o n) (drop_some v c r e)
+-- a cursor's way
 
-pub along_end : (v : List ChunkRow) (c o n : ℕ) → slice_get v c ≡ None → along (drop c v) c o n ≡ record { row = c; within = o }
+along_at : (v : List ChunkRow) (i c o n : ℕ) → i < length v →
+    along (drop i v) c o n ≡ cond (ltb n ((get_or v i blank).length - o)) (record { row = c; within = o + n }) (along (drop (i + 1) v) (c + 1) 0 (n - ((get_or v i blank).length - o)))
 unfolding along
-along_end v c o n e = ap (λ rs. along rs c o n) (drop_none v c e)
+along_at v i c o n h = at_drop_more (λ rs. along rs c o n) v i blank h
+
+pub along_stops : (v : List ChunkRow) (i c o n w : ℕ) → i < length v → stop_in (get_or v i blank) o n ≡ Some w → along (drop i v) c o n ≡ record { row = c; within = w }
+along_stops v i c o n w h s =
+    let p = cond_some (ltb n ((get_or v i blank).length - o)) (o + n) w s in
+    along_at v i c o n h ∙ rw (p.0, p.1) refl
+
+pub along_passes : (v : List ChunkRow) (i c o n : ℕ) → i < length v → stop_in (get_or v i blank) o n ≡ None →
+    along (drop i v) c o n ≡ along (drop (i + 1) v) (c + 1) 0 (n - ((get_or v i blank).length - o))
+along_passes v i c o n h s = along_at v i c o n h ∙ grind (arith, nat_tests, s)
+
+pub along_end : (v : List ChunkRow) (i c o n : ℕ) → length v ≤ i → along (drop i v) c o n ≡ record { row = c; within = o }
+unfolding along
+along_end v i c o n h = at_drop_all (λ rs. along rs c o n) v i h
 
 -- iovecs written one by one
-unfoldable pub fill : List Iovec → ℕ → ℕ → List ChunkRow → List Iovec
-fill xs i o [] = xs
-fill xs i o (r ∷ rs) = fill (set xs i (iovec_of r o)) (i + 1) 0 rs
 
-pub fill_at : (u : List ChunkRow) (xs : List Iovec) (i o : ℕ) (r : ChunkRow) → slice_get u i ≡ Some r →
-    fill xs i o (drop i u) ≡ fill (set xs i (iovec_of r o)) (i + 1) 0 (drop (i + 1) u)
-unfolding fill
-fill_at u xs i o r e = ap (fill xs i o) (drop_some u i r e)
+pub fill_more : (u : List ChunkRow) (xs : List Iovec) (i o : ℕ) (d : ChunkRow) → i < length u → i < length xs →
+    take (i + 1) (set xs i (iovec_of (get_or u i d) o)) ++ iovecs_of 0 (drop (i + 1) u) ≡ take i xs ++ iovecs_of o (drop i u)
+unfolding iovecs_of
+fill_more u xs i o d h k =
+    ap (λ l. l ++ iovecs_of 0 (drop (i + 1) u)) (take_more_set xs i (iovec_of (get_or u i d) o) k)
+    ∙ append_assoc (take i xs) (iovec_of (get_or u i d) o ∷ []) (iovecs_of 0 (drop (i + 1) u))
+    ∙ sym (ap (λ l. take i xs ++ l) (at_drop_more (iovecs_of o) u i d h))
 
-pub fill_end : (u : List ChunkRow) (xs : List Iovec) (i o : ℕ) → length u ≤ i → fill xs i o (drop i u) ≡ xs
-unfolding fill
-fill_end u xs i o h = ap (fill xs i o) (drop_all i u h)
+-- the list behind the last row is as it was
+pub fill_end : (u : List ChunkRow) (xs old : List Iovec) (i o : ℕ) → i ≡ length u → drop (length u) xs ≡ drop (length u) old →
+    xs ≡ (take i xs ++ iovecs_of o (drop i u)) ++ drop (length u) old
+unfolding iovecs_of
+fill_end u xs old i o h e =
+    rw (at_drop_all (iovecs_of o) u i (omega arith), append-nil, h, ← e) (sym (take-append-drop (length u) xs))
 
-fill_under : (u : List ChunkRow) (x : Iovec) (xs : List Iovec) (i o : ℕ) → fill (x ∷ xs) (suc i) o u ≡ x ∷ fill xs i o u
-unfolding fill
-fill_under [] x xs i o = refl
-fill_under (r ∷ rs) x xs i o = simp unary_clauses (fill_under rs x (set xs i (iovec_of r o)) (suc i) 0)
+-- the bytes of a submission
 
-pub fill_whole : (u : List ChunkRow) (xs : List Iovec) (o : ℕ) → length u ≤ length xs → fill xs 0 o u ≡ iovecs_of o u ++ drop (length u) xs
-unfolding fill iovecs_of
-fill_whole [] xs o h = refl
-fill_whole (r ∷ rs) [] o h = absurd (omega arith)
-fill_whole (r ∷ rs) (x ∷ xs) o h = fill_under rs (iovec_of r o) xs 0 0 ∙ ap (λ l. iovec_of r o ∷ l) (fill_whole rs xs 0 (omega arith))
-
-pub bytes_at : (u : List ChunkRow) (i o : ℕ) (r : ChunkRow) → slice_get u i ≡ Some r →
-    iovec_bytes (iovecs_of o (drop i u)) ≡ (r.length - o) + iovec_bytes (iovecs_of 0 (drop (i + 1) u))
+pub bytes_none : (u : List ChunkRow) (o : ℕ) → length u ≡ 0 → 0 ≡ iovec_bytes (iovecs_of o u)
 unfolding iovecs_of iovec_bytes
-bytes_at u i o r e = ap (λ rs. iovec_bytes (iovecs_of o rs)) (drop_some u i r e)
+bytes_none [] o h = refl
+bytes_none (r ∷ rs) o h = absurd (omega arith)
 
-pub bytes_end : (u : List ChunkRow) (i o : ℕ) → length u ≤ i → iovec_bytes (iovecs_of o (drop i u)) ≡ 0
+pub bytes_fold : (m b : ℕ) (u : List ChunkRow) → b ≤ m → fold (λ b (r : ChunkRow). min (b + r.length) m) b u ≡ min (b + iovec_bytes (iovecs_of 0 u)) m
 unfolding iovecs_of iovec_bytes
-bytes_end u i o h = ap (λ rs. iovec_bytes (iovecs_of o rs)) (drop_all i u h)
+bytes_fold m b [] h = omega arith
+bytes_fold m b (r ∷ rs) h = let i = bytes_fold m (min (b + r.length) m) rs (omega arith) in omega (arith, i)
+
+pub bytes_first : (r : ChunkRow) (u : List ChunkRow) (o : ℕ) → iovec_bytes (iovecs_of o (r ∷ u)) ≡ (r.length - o) + iovec_bytes (iovecs_of 0 u)
+unfolding iovecs_of iovec_bytes
+bytes_first r u o = refl

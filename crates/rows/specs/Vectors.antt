@@ -47,20 +47,20 @@ iovec_bytes [] = 0
 iovec_bytes (v ∷ vs) = v.length + iovec_bytes vs
 
 -- the rows that one submission carries: writev(2) takes 1,024 at most (IOV_MAX)
-unfoldable pub carried : List ChunkRow → (first count row : ℕ) → List ChunkRow
-carried table first count row = take 1024 (drop row (range table first count))
+unfoldable pub carried_in : List ChunkRow → (row : ℕ) → List ChunkRow
+carried_in rows row = take 1024 (drop row rows)
 
 -- a list that is too short is refused with the places needed
-abbrev pub filled_answer : List ChunkRow → (first count : ℕ) → Cursor → List Iovec → Result ℕ Denial
-filled_answer table first count cursor list =
-    cond (nat_lt (length list) (length (carried table first count cursor.row)))
-    (Err (ListTooShort (length (carried table first count cursor.row))))
-    (Ok (length (carried table first count cursor.row)))
+abbrev pub filled_answer_in : List ChunkRow → Cursor → List Iovec → Result ℕ Denial
+filled_answer_in rows cursor list =
+    cond (nat_lt (length list) (length (carried_in rows cursor.row)))
+    (Err (ListTooShort (length (carried_in rows cursor.row))))
+    (Ok (length (carried_in rows cursor.row)))
 
-abbrev pub filled_list : List ChunkRow → (first count : ℕ) → Cursor → List Iovec → List Iovec
-filled_list table first count cursor list =
-    cond (nat_lt (length list) (length (carried table first count cursor.row))) list
-    (iovecs_of cursor.within (carried table first count cursor.row) ++ drop (length (carried table first count cursor.row)) list)
+abbrev pub filled_list_in : List ChunkRow → Cursor → List Iovec → List Iovec
+filled_list_in rows cursor list =
+    cond (nat_lt (length list) (length (carried_in rows cursor.row))) list
+    (iovecs_of cursor.within (carried_in rows cursor.row) ++ drop (length (carried_in rows cursor.row)) list)
 
 -- the offset at which so many bytes end, where they end before the row does
 abbrev pub stop_in : ChunkRow → (within bytes : ℕ) → Option ℕ
@@ -72,5 +72,19 @@ along [] row within bytes = record { row = row; within = within }
 along (r ∷ rs) row within bytes = cond (nat_lt bytes (r.length - within)) (record { row = row; within = within + bytes })
     (along rs (row + 1) 0 (bytes - (r.length - within)))
 
+abbrev pub advanced_in : List ChunkRow → Cursor → (bytes : ℕ) → Cursor
+advanced_in rows cursor bytes = along (drop cursor.row rows) cursor.row cursor.within bytes
+
+-- the same, of a range of the table
+
+abbrev pub carried : List ChunkRow → (first count row : ℕ) → List ChunkRow
+carried table first count row = carried_in (range table first count) row
+
+abbrev pub filled_answer : List ChunkRow → (first count : ℕ) → Cursor → List Iovec → Result ℕ Denial
+filled_answer table first count cursor list = filled_answer_in (range table first count) cursor list
+
+abbrev pub filled_list : List ChunkRow → (first count : ℕ) → Cursor → List Iovec → List Iovec
+filled_list table first count cursor list = filled_list_in (range table first count) cursor list
+
 abbrev pub advanced : List ChunkRow → (first count : ℕ) → Cursor → ℕ → Cursor
-advanced table first count cursor bytes = along (drop cursor.row (range table first count)) cursor.row cursor.within bytes
+advanced table first count cursor bytes = advanced_in (range table first count) cursor bytes

@@ -2,8 +2,8 @@
 #![tactic(auto)]
 
 pub mod laws;
-pub mod places;
-pub mod walk;
+pub mod row;
+pub mod view;
 
 pub use laws::cursors_keep_their_bytes;
-pub use walk::{advance, carried_bytes, fill_iovecs, rows_total};
+pub use view::Rows;

@@ -1,10 +1,10 @@
 -- The worked situations, computed.
 use Rattle.std.proofs.Common.{refl}
-use Rattle.rows.specs.Vectors.{range, total, all_within, carried, iovecs_of, iovec_bytes, along}
+use Rattle.rows.specs.Vectors.{range, total, all_within, carried_in, iovecs_of, iovec_bytes, along}
 use Rattle.runs.specs.Situations.{Situations}
 
 pub situations : Situations
-unfolding range total all_within carried iovecs_of iovec_bytes along
+unfolding range total all_within carried_in iovecs_of iovec_bytes along
 situations = record {
   token_packs = refl;
   direct_skip = refl;

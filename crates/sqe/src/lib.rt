@@ -6,7 +6,7 @@ ghost use Rattle.sqe.specs.Building.{kept_hint, hint_flag, sync_flag, part_of, p
 
 use records::{Cache, ChunkRow, Denial, Iovec, Opcode, Submission, WriteAtState, WriteBuffers};
 use request::{ReadAtRequest, RecvRequest, Request, SendRequest, WriteAtRequest};
-use rows::fill_iovecs;
+use rows::Rows;
 
 const FSYNC_DATASYNC: u32 = 1;
 
@@ -79,7 +79,7 @@ pub(crate) fn part_of_write(
             length: single.bytes_submitted(),
         }),
         WriteBuffers::Rows(rows) => {
-            let count = fill_iovecs(table, rows.first, rows.count, rows.cursor, iovecs)?;
+            let count = Rows::new(table, rows.first, rows.count).fill_iovecs(rows.cursor, iovecs)?;
             Ok(Part {
                 opcode: Opcode::Writev,
                 place: list,
