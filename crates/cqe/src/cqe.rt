@@ -59,6 +59,7 @@ pub(crate) fn react(request: Request, table: &[ChunkRow], res: CqeResult) -> Ste
 }
 
 /// What a completion makes of a request, or a refusal where the result does not fit.
+// The state is the waiter's and the result the kernel's; they meet in this call alone, so they are no struct.
 pub fn on_cqe(
     request: Request,
     table: &[ChunkRow],

@@ -42,6 +42,8 @@ pub(crate) fn begin_write(table: &[ChunkRow], source: Source) -> Option<WriteBuf
     }
 }
 
+// Each function below has the fields of one variant: a struct for each variant would be read there alone.
+
 pub(crate) fn admit_send(
     table: &[ChunkRow],
     descriptor: u32,
