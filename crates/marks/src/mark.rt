@@ -1,7 +1,7 @@
 //! A row of marks, one for each write that can be counted.
 ghost use Rattle.std.specs.Prelude.{◌≡◌, position};
 ghost use Rattle.ledger.specs.Meaning.{fresh_row};
-ghost use Rattle.marks.specs.Marking.{completed_marks, covered_marks, is_unused, covered_mark, left_after, cover_first, seen_row, fresh_marks};
+ghost use Rattle.marks.specs.Marking.{completed_by, covered_by, completed_marks, covered_marks, is_unused, covered_mark, left_after, cover_first, seen_row, fresh_marks};
 
 use ledger::{LentLedger, Row, Tally};
 use records::Outcome;
@@ -25,18 +25,38 @@ pub struct MarkRow {
 /// The ledger that keeps a mark for each write.
 pub type Marks<'a> = LentLedger<'a, MarkRow>;
 
-// The writes that completed.
-fn completed(marks: &[Mark]) -> usize
-    ensures { result ≡ completed_marks marks.now }
+// 1 for a mark that counts as completed.
+fn completed_by(mark: Mark) -> u64
+    ensures { result ≡ completed_by mark }
 {
-    marks.iter().filter(|mark| **mark != Mark::Unused).count()
+    match mark {
+        Mark::Unused => 0,
+        Mark::Open | Mark::Covered => 1,
+    }
 }
 
-// The writes that a sync covered.
-fn covered(marks: &[Mark]) -> usize
-    ensures { result ≡ covered_marks marks.now }
+// 1 for a mark that counts as covered.
+fn covered_by(mark: Mark) -> u64
+    ensures { result ≡ covered_by mark }
 {
-    marks.iter().filter(|mark| **mark == Mark::Covered).count()
+    match mark {
+        Mark::Unused | Mark::Open => 0,
+        Mark::Covered => 1,
+    }
+}
+
+// The completed and the covered writes.
+fn tally(marks: &[Mark]) -> (u64, u64)
+    ensures completed { result.0 ≡ completed_marks marks.now }
+    ensures covered { result.1 ≡ covered_marks marks.now }
+{
+    let mut completed = 0;
+    let mut covered = 0;
+    for mark in marks {
+        completed += completed_by(*mark);
+        covered += covered_by(*mark);
+    }
+    (completed, covered)
 }
 
 // The place of the first unused mark.
@@ -88,9 +108,10 @@ impl Tally for MarkRow {
     }
 
     fn row(&self) -> Row {
+        let (completed, covered) = tally(&self.marks);
         Row {
-            completed: completed(&self.marks) as u64,
-            covered: covered(&self.marks) as u64,
+            completed,
+            covered,
             taint: self.taint,
         }
     }

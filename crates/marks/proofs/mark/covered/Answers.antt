@@ -1,7 +1,0 @@
-use Rattle.std.proofs.Common.{rules, ◌≡◌, ◌∙◌, sym}
-use Rattle.std.specs.List.{count_by}
-use Rattle.marks.proofs.Counted.{is_covered, covered_counted}
-use Rattle.marks.proofs.mark.covered.Goals as goal
-
-pub returns : goal.returns
-returns c = let e : c.count.result ≡ count_by is_covered c.args.marks.now = search rules in e ∙ sym (covered_counted _)
