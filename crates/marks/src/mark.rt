@@ -1,7 +1,7 @@
 //! A row of marks, one for each write that can be counted.
 ghost use Rattle.std.specs.Prelude.{◌≡◌, position};
 ghost use Rattle.ledger.specs.Meaning.{fresh_row};
-ghost use Rattle.marks.specs.Marking.{completed_by, covered_by, completed_marks, covered_marks, is_unused, covered_mark, left_after, cover_first, seen_row, fresh_marks};
+ghost use Rattle.marks.specs.Marking.{completed_marks, covered_marks, is_unused, covered_mark, left_after, cover_first, seen_row, fresh_marks};
 
 use ledger::{LentLedger, Row, Tally};
 use records::Outcome;
@@ -25,26 +25,6 @@ pub struct MarkRow {
 /// The ledger that keeps a mark for each write.
 pub type Marks<'a> = LentLedger<'a, MarkRow>;
 
-// 1 for a mark that counts as completed.
-fn completed_by(mark: Mark) -> u64
-    ensures { result ≡ completed_by mark }
-{
-    match mark {
-        Mark::Unused => 0,
-        Mark::Open | Mark::Covered => 1,
-    }
-}
-
-// 1 for a mark that counts as covered.
-fn covered_by(mark: Mark) -> u64
-    ensures { result ≡ covered_by mark }
-{
-    match mark {
-        Mark::Unused | Mark::Open => 0,
-        Mark::Covered => 1,
-    }
-}
-
 // The completed and the covered writes.
 fn tally(marks: &[Mark]) -> (u64, u64)
     ensures completed { result.0 ≡ completed_marks marks.now }
@@ -53,8 +33,8 @@ fn tally(marks: &[Mark]) -> (u64, u64)
     let mut completed = 0;
     let mut covered = 0;
     for mark in marks {
-        completed += completed_by(*mark);
-        covered += covered_by(*mark);
+        completed += u64::from(*mark != Mark::Unused);
+        covered += u64::from(*mark == Mark::Covered);
     }
     (completed, covered)
 }
