@@ -1,11 +1,12 @@
 -- One call: which row it changes, and what that row says of the record then.
-use Rattle.std.proofs.Common.{◌≡◌, ℕ, ◌+◌, ◌<◌, ◌≤◌, min, Bool, true, false, cond, not, ◌&&◌, ◌||◌, eqb, ltb, List, [], ◌∷◌, length, is_some, Some, None, Option, sym, refl, ap, ◌∙◌, subst, arith}
-use Rattle.std.proofs.lemmas.List.{length-set}
-use Rattle.std.proofs.lemmas.Option.{slice_get_past}
+use Rattle.std.proofs.Common.{◌≡◌, ℕ, ◌+◌, ◌<◌, ◌≤◌, min, Bool, true, false, cond, not, ◌&&◌, ◌||◌, eqb, ltb, List, [], ◌∷◌, length, set, is_some, Some, None, Option, sym, refl, ap, ◌∙◌, subst, arith}
+use Rattle.std.proofs.lemmas.List.{length-set, get_or-set_same}
+use Rattle.std.proofs.lemmas.Option.{slice_get_past, slice_get_read, gets}
+use Rattle.std.proofs.lemmas.Grind.{common_steps}
+use Rattle.std.specs.List.{slice_get}
 use Rattle.std.proofs.lemmas.Bool.{eqb-true, eqb-false, ltb-true, ltb-false}
 use Rattle.std.proofs.lemmas.Bool.Decides.{nat_tests}
 use Rattle.std.specs.declared.result.Result.TheVariants as result
-use Rattle.tables.proofs.Lists.{nth_set_same, nth_set_other}
 use Rattle.records.specs.declared.mode.WriteAtState.{WriteAtState}
 use Rattle.records.specs.declared.mode.WriteAtState.TheVariants.{Writing, WritingSync, WritingBeforeSync, Syncing}
 use Rattle.records.specs.declared.outcome.Outcome.{Outcome}
@@ -21,10 +22,15 @@ eqb_same i j e = grind (arith, nat_tests)
 -- the row that a call changes
 
 pub row_same : (rows : List Row) (j i : ℕ) (f : Row → Row) → i ≡ j → i < length rows → row_at (on_row rows j f) i ≡ f (row_at rows i)
-row_same rows j i f e h = rw (← e) (ap row_or_fresh (nth_set_same rows i (f (row_at rows i)) h))
+row_same rows j i f e h =
+    rw (← e) (ap row_or_fresh (slice_get_read (set rows i (f (row_at rows i))) (length rows) i (f (row_at rows i)) (sym (length-set rows i (f (row_at rows i)))) h
+    (sym (get_or-set_same rows i (f (row_at rows i)) (f (row_at rows i)) h))))
+
+set_elsewhere : (rows : List Row) (j i : ℕ) (row : Row) → (i ≡ j → ⊥) → slice_get (set rows j row) i ≡ slice_get rows i
+set_elsewhere rows j i row h = grind (arith, common_steps, gets)
 
 pub row_other : (rows : List Row) (j i : ℕ) (f : Row → Row) → (i ≡ j → ⊥) → row_at (on_row rows j f) i ≡ row_at rows i
-row_other rows j i f h = ap row_or_fresh (nth_set_other rows j i (f (row_at rows j)) h)
+row_other rows j i f h = ap row_or_fresh (set_elsewhere rows j i (f (row_at rows j)) h)
 
 pub row_past : (rows : List Row) (i : ℕ) → length rows ≤ i → row_at rows i ≡ fresh_row
 row_past rows i h = ap row_or_fresh (slice_get_past rows i h)

@@ -1,4 +1,3 @@
 pub mod Meaning
-pub mod Views
 pub mod Notions
 pub mod Laws

@@ -45,6 +45,10 @@ io_error taint LedgerSpent = taint
 abbrev pub with_taint : Row → Option Outcome → Row
 with_taint row taint = record { completed = row.completed; covered = row.covered; taint = taint }
 
+-- told an error, an untainted row has it as its taint
+abbrev pub tainted_row : Outcome → Row → Row
+tainted_row error row = with_taint row (first_error row.taint error)
+
 -- counting raises the completed writes by 1; at the most they stay, and the row is tainted LedgerSpent
 abbrev pub counted : (most : ℕ) → Row → Row
 counted most row = cond (nat_lt row.completed most)

@@ -1,17 +1,16 @@
 -- What a row of marks says once marks are opened or covered.
-use Rattle.std.proofs.Common.{◌≡◌, ℕ, zero, suc, ◌+◌, ◌-◌, ◌<◌, ◌≤◌, true, false, ltb, List, [], ◌∷◌, map, length, take, set, replicate, Some, None, Option, refl, ap, ◌∙◌, subst, arith}
-use lib.LanesLaws.{map-replicate}
-use Rattle.std.proofs.lemmas.List.{map-set, take_all}
+use Rattle.std.proofs.Common.{◌≡◌, ℕ, zero, suc, ◌+◌, ◌-◌, ◌<◌, ◌≤◌, true, false, ltb, List, [], ◌∷◌, length, get_or, set, Some, None, refl, ap, ◌∙◌, arith}
 use Rattle.std.proofs.lemmas.Bool.{lt-ltb, le-ltb}
 use Rattle.std.proofs.lemmas.Bool.Decides.{nat_tests}
-use Rattle.std.specs.List.{slice_get}
-use Rattle.tables.specs.Listed.{First}
-use Rattle.tables.proofs.Lists.{nth_map_some, nth_map_none}
+use Rattle.std.proofs.lemmas.List.Quantifiers.{position-Some}
+use Rattle.std.proofs.lemmas.Option.{slice_get-get_or}
+use Rattle.std.specs.List.{slice_get, position, position_or_len}
+use Rattle.records.specs.declared.outcome.Outcome.TheVariants.{LedgerSpent}
 use Rattle.marks.specs.declared.mark.Mark.{Mark}
 use Rattle.marks.specs.declared.mark.Mark.TheVariants.{Unused, Open, Covered}
 use Rattle.marks.specs.declared.mark.MarkRow.{MarkRow}
-use Rattle.ledger.specs.Meaning.{fresh_row, row_or_fresh, row_at, counted, covers_now}
-use Rattle.marks.specs.Marking.{completed_marks, covered_marks, cover_first, seen_row, opened_at, covered_row, fresh_marks}
+use Rattle.ledger.specs.Meaning.{tainted_row, counted, covers_now, ended_by}
+use Rattle.marks.specs.Marking.{completed_marks, covered_marks, is_unused, cover_first, seen_row}
 
 pub covered_le_completed : (ms : List Mark) → covered_marks ms ≤ completed_marks ms
 unfolding completed_marks covered_marks
@@ -27,58 +26,63 @@ completed_le_length (Unused ∷ ms) = let h = completed_le_length ms in omega ar
 completed_le_length (Open ∷ ms) = let h = completed_le_length ms in omega arith
 completed_le_length (Covered ∷ ms) = let h = completed_le_length ms in omega arith
 
--- the first unused mark is opened
+-- an unused mark is opened
 
-completed_opened : (ms : List Mark) (i : ℕ) → First Unused ms (Some i) → completed_marks (set ms i Open) ≡ completed_marks ms + 1
+completed_opened : (ms : List Mark) (i : ℕ) → slice_get ms i ≡ Some Unused → completed_marks (set ms i Open) ≡ completed_marks ms + 1
 unfolding completed_marks
-completed_opened [] i f = absurd f
-completed_opened (Unused ∷ ms) zero f = omega arith
-completed_opened (Open ∷ ms) zero f = let z : ◌≡◌ {A = ℕ} 0 1 = cc in absurd (omega arith)
-completed_opened (Covered ∷ ms) zero f = let z : ◌≡◌ {A = ℕ} 0 1 = cc in absurd (omega arith)
-completed_opened (Unused ∷ ms) (suc i) f = absurd (f.0 refl)
-completed_opened (Open ∷ ms) (suc i) f = let e = completed_opened ms i f.1 in omega arith
-completed_opened (Covered ∷ ms) (suc i) f = let e = completed_opened ms i f.1 in omega arith
+completed_opened [] i e = absurd (cc)
+completed_opened (Unused ∷ ms) zero e = omega arith
+completed_opened (Open ∷ ms) zero e = absurd (cc)
+completed_opened (Covered ∷ ms) zero e = absurd (cc)
+completed_opened (m ∷ ms) (suc i) e = let h = completed_opened ms i e in omega arith
 
-covered_opened : (ms : List Mark) (i : ℕ) → First Unused ms (Some i) → covered_marks (set ms i Open) ≡ covered_marks ms
+covered_opened : (ms : List Mark) (i : ℕ) → slice_get ms i ≡ Some Unused → covered_marks (set ms i Open) ≡ covered_marks ms
 unfolding covered_marks
-covered_opened [] i f = absurd f
-covered_opened (Unused ∷ ms) zero f = refl
-covered_opened (Open ∷ ms) zero f = refl
-covered_opened (Covered ∷ ms) zero f = let z : ◌≡◌ {A = ℕ} 0 1 = cc in absurd (omega arith)
-covered_opened (Unused ∷ ms) (suc i) f = absurd (f.0 refl)
-covered_opened (Open ∷ ms) (suc i) f = let e = covered_opened ms i f.1 in omega arith
-covered_opened (Covered ∷ ms) (suc i) f = let e = covered_opened ms i f.1 in omega arith
+covered_opened [] i e = absurd (cc)
+covered_opened (Unused ∷ ms) zero e = refl
+covered_opened (Open ∷ ms) zero e = absurd (cc)
+covered_opened (Covered ∷ ms) zero e = absurd (cc)
+covered_opened (m ∷ ms) (suc i) e = let h = covered_opened ms i e in omega arith
 
-unused_left : (ms : List Mark) (i : ℕ) → First Unused ms (Some i) → completed_marks ms < length ms
+unused_left : (ms : List Mark) (i : ℕ) → slice_get ms i ≡ Some Unused → completed_marks ms < length ms
 unfolding completed_marks
-unused_left [] i f = absurd f
-unused_left (Unused ∷ ms) i f = let k = completed_le_length ms in omega arith
-unused_left (Open ∷ ms) zero f = let z : ◌≡◌ {A = ℕ} 0 1 = cc in absurd (omega arith)
-unused_left (Covered ∷ ms) zero f = let z : ◌≡◌ {A = ℕ} 0 1 = cc in absurd (omega arith)
-unused_left (Open ∷ ms) (suc i) f = let k = unused_left ms i f.1 in omega arith
-unused_left (Covered ∷ ms) (suc i) f = let k = unused_left ms i f.1 in omega arith
+unused_left [] i e = absurd (cc)
+unused_left (Unused ∷ ms) i e = let k = completed_le_length ms in omega arith
+unused_left (Open ∷ ms) zero e = absurd (cc)
+unused_left (Covered ∷ ms) zero e = absurd (cc)
+unused_left (Open ∷ ms) (suc i) e = let k = unused_left ms i e in omega arith
+unused_left (Covered ∷ ms) (suc i) e = let k = unused_left ms i e in omega arith
 
-none_left : (ms : List Mark) → First Unused ms None → length ms ≤ completed_marks ms
+none_left : (ms : List Mark) → length ms ≤ position_or_len is_unused ms → length ms ≤ completed_marks ms
 unfolding completed_marks
-none_left [] f = omega arith
-none_left (Unused ∷ ms) f = absurd (f.0 refl)
-none_left (Open ∷ ms) f = let k = none_left ms f.1 in omega arith
-none_left (Covered ∷ ms) f = let k = none_left ms f.1 in omega arith
+none_left [] h = omega arith
+none_left (Unused ∷ ms) h = absurd (omega arith)
+none_left (Open ∷ ms) h = let k = none_left ms (omega arith) in omega arith
+none_left (Covered ∷ ms) h = let k = none_left ms (omega arith) in omega arith
 
-counted_at : (row : MarkRow) (o : Option ℕ) → length row.marks ≡ 256 → First Unused row.marks o → seen_row (opened_at row o) ≡ counted 256 (seen_row row)
-counted_at row (Some i) n f =
-    let c = completed_opened row.marks i f in
-    let s = covered_opened row.marks i f in
-    let t : ltb (completed_marks row.marks) 256 ≡ true = lt-ltb _ _ (let l = unused_left row.marks i f in omega (arith, l, n)) in
+is_unused_only : (m : Mark) → is_unused m ≡ true → m ≡ Unused
+is_unused_only Unused e = refl
+is_unused_only Open e = cc
+is_unused_only Covered e = cc
+
+-- a mark is opened where one is unused, and else the row is spent
+
+pub seen_opened : (row : MarkRow) (i : ℕ) → length row.marks ≡ 256 → position is_unused row.marks ≡ Some i →
+    seen_row (record { marks = set row.marks i Open; taint = row.taint }) ≡ counted 256 (seen_row row)
+seen_opened row i n p =
+    let at = position-Some is_unused row.marks i Unused p in
+    let e : slice_get row.marks i ≡ Some Unused = slice_get-get_or row.marks i Unused at.0 ∙ ap Some (is_unused_only (get_or row.marks i Unused) at.1) in
+    let c = completed_opened row.marks i e in
+    let s = covered_opened row.marks i e in
+    let t : ltb (completed_marks row.marks) 256 ≡ true = lt-ltb _ _ (let l = unused_left row.marks i e in omega (arith, l, n)) in
     rw (c, s, t) refl
-counted_at row None n f =
-    let t : ltb (completed_marks row.marks) 256 ≡ false = le-ltb _ _ (let l = none_left row.marks f in omega (arith, l, n)) in
-    rw t refl
 
-pub seen_counted : (row : MarkRow) (o : Option ℕ) → length row.marks ≡ 256 → First Unused (take 256 row.marks) o → seen_row (opened_at row o) ≡ counted 256 (seen_row row)
-seen_counted row o n f =
-    let e : take 256 row.marks ≡ row.marks = take_all 256 row.marks (omega (arith, n)) in
-    counted_at row o n (subst (λ (ms : List Mark). First Unused ms o) e f)
+pub seen_spent : (row : MarkRow) → length row.marks ≡ 256 → position is_unused row.marks ≡ None →
+    tainted_row LedgerSpent (seen_row row) ≡ counted 256 (seen_row row)
+seen_spent row n p =
+    let h : length row.marks ≤ position_or_len is_unused row.marks = grind (arith, nat_tests) in
+    let t : ltb (completed_marks row.marks) 256 ≡ false = le-ltb _ _ (let l = none_left row.marks h in omega (arith, l, n)) in
+    rw t refl
 
 -- open marks are covered
 
@@ -99,8 +103,8 @@ covered_covered n (Open ∷ ms) h =
 covered_covered n (Covered ∷ ms) h = let e = covered_covered n ms (omega arith) in omega arith
 
 pub seen_covered : (row : MarkRow) (seen : ℕ) →
-    seen_row (covered_row row (covers_now (completed_marks row.marks) (covered_marks row.marks) seen - covered_marks row.marks))
-    ≡ record { completed = completed_marks row.marks; covered = covers_now (completed_marks row.marks) (covered_marks row.marks) seen; taint = row.taint }
+    seen_row (record { marks = cover_first (covers_now (completed_marks row.marks) (covered_marks row.marks) seen - covered_marks row.marks) row.marks; taint = row.taint })
+    ≡ ended_by None seen (seen_row row)
 seen_covered row seen =
     let c = completed_marks row.marks in
     let s = covered_marks row.marks in
@@ -108,23 +112,3 @@ seen_covered row seen =
     let h : s + (covers_now c s seen - s) ≤ c = omega arith in
     let e : covered_marks (cover_first (covers_now c s seen - s) row.marks) ≡ covers_now c s seen = covered_covered (covers_now c s seen - s) row.marks h ∙ omega arith in
     cc (completed_covered (covers_now c s seen - s) row.marks, e)
-
--- a row with no mark in use
-
-pub seen_no_marks : seen_row fresh_marks ≡ fresh_row
-unfolding completed_marks covered_marks
-seen_no_marks = refl
-
--- rows of marks
-
-pub seen_some : (rows : List MarkRow) (i : ℕ) (row : MarkRow) → slice_get rows i ≡ Some row → row_at (map seen_row rows) i ≡ seen_row row
-seen_some rows i row e = ap row_or_fresh (nth_map_some seen_row rows i row e)
-
-pub seen_none : (rows : List MarkRow) (i : ℕ) → slice_get rows i ≡ None → row_at (map seen_row rows) i ≡ fresh_row
-seen_none rows i e = ap row_or_fresh (nth_map_none seen_row rows i e)
-
-pub seen_set : (rows : List MarkRow) (i : ℕ) (row : MarkRow) → map seen_row (set rows i row) ≡ set (map seen_row rows) i (seen_row row)
-seen_set rows i row = map-set seen_row rows i row
-
-pub seen_fresh : (n : ℕ) (row : MarkRow) → seen_row row ≡ fresh_row → map seen_row (replicate n row) ≡ replicate n fresh_row
-seen_fresh n row e = map-replicate seen_row n row ∙ ap (replicate n) e

@@ -2,7 +2,5 @@
 #![tactic(auto)]
 
 pub mod mark;
-pub mod marks;
 
-pub use mark::{Mark, MarkRow, fresh_marks};
-pub use marks::Marks;
+pub use mark::{Mark, MarkRow, Marks};

@@ -1,6 +1,6 @@
 //! What a call costs, by the size of the tables.
-use ledger::{Counts, Ledger, fresh_row};
-use marks::{Marks, fresh_marks};
+use ledger::{Counts, Ledger, Row, Tally};
+use marks::{MarkRow, Marks};
 use records::{Outcome, WriteAtState};
 use slots::{Slab, Slot};
 use std::io;
@@ -100,13 +100,13 @@ fn time_ledger<L: Ledger>(
 }
 
 fn time_counts(rt: &HostRuntime, rows: u32, turns: u32) -> io::Result<()> {
-    let mut table = vec![in rt.alloc(); fresh_row(); rows as usize]?;
+    let mut table = vec![in rt.alloc(); Row::fresh(); rows as usize]?;
     let mut counts = Counts::new(&mut table);
     time_ledger(rt, "counts", &mut counts, rows, turns)
 }
 
 fn time_marks(rt: &HostRuntime, rows: u32, turns: u32) -> io::Result<()> {
-    let mut table = vec![in rt.alloc(); fresh_marks(); rows as usize]?;
+    let mut table = vec![in rt.alloc(); MarkRow::fresh(); rows as usize]?;
     let mut marks = Marks::new(&mut table);
     time_ledger(rt, "marks", &mut marks, rows, turns)
 }

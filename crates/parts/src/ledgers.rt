@@ -1,6 +1,6 @@
 //! The same calls on a ledger that counts and on one that marks.
-use ledger::{Counts, Ledger, fresh_row};
-use marks::{Marks, fresh_marks};
+use ledger::{Counts, Ledger, Row, Tally};
+use marks::{MarkRow, Marks};
 use records::{Outcome, WriteAtState};
 use std::io;
 
@@ -119,11 +119,11 @@ fn play<L: Ledger>(rt: &HostRuntime, ledger: &mut L) -> io::Result<()> {
 
 pub(crate) fn play_ledgers(rt: &HostRuntime) -> io::Result<()> {
     println!(rt; "== a ledger that counts")?;
-    let mut rows = [fresh_row(); 2];
+    let mut rows = [Row::fresh(); 2];
     let mut counts = Counts::new(&mut rows);
     play(rt, &mut counts)?;
     println!(rt; "== a ledger that marks")?;
-    let mut mark_rows = [fresh_marks(); 2];
+    let mut mark_rows = [MarkRow::fresh(); 2];
     let mut marks = Marks::new(&mut mark_rows);
     play(rt, &mut marks)
 }
