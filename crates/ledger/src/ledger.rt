@@ -7,12 +7,15 @@ use records::{Outcome, WriteAtState};
 
 /// Rows of files, by number. No call refuses; a row that the ledger lacks reads as fresh.
 pub trait Ledger {
+    /// The most that the completed writes of a row can reach.
+    const MOST: u64;
+
     ghost rows: { Self → List Row };
 
     ghost peak: { ℕ };
 
-    /// The most that the completed writes of a row can reach. A function, since the check states no constant with a
-    /// ghost member beside it in an impl that has a lifetime.
+    /// The constant, as contracts name it. In an impl that has a lifetime the check states no ghost member beside a
+    /// constant under its own name.
     fn limit() -> u64
         ensures { result ≡ peak };
 

@@ -58,10 +58,13 @@ impl<'a, T: Tally> LentLedger<'a, T> {
 }
 
 impl<'a, T: Tally> Ledger for LentLedger<'a, T> {
+    const MOST: u64 = T::MOST;
+
     ghost rows = { λ ledger. ledger };
 
     ghost peak = { T.MOST };
 
+    // `Self::MOST`, of which the check knows no value here: it does not compute a constant of every `T`.
     fn limit() -> u64 {
         T::MOST
     }
