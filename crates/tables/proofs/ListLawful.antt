@@ -8,7 +8,6 @@ use Rattle.tables.proofs.Laying.{parts, laid_none, extended, extended_emptied}
 
 module _ {X : Type 0} where
   all_parts : (n : ℕ) (places : List X) → memory (laid n places) ≡ places
-  unfolding laid
   all_parts n places = parts n places
 
   no_place : (l : Listed X) (x : X) (rest : List X) → rest ≡ [] → (some_free rest ≡ false) × (appended_to l x rest ≡ l)

@@ -1,0 +1,15 @@
+//! Why a list takes no more.
+use std::error::Error;
+use std::fmt;
+
+/// No place is left: nothing changed.
+#[derive(Debug, Clone, Copy, PartialEq, Eq)]
+pub struct Full;
+
+impl fmt::Display for Full {
+    fn fmt<W: fmt::Write>(&self, f: &mut fmt::Formatter<W>) -> fmt::Result {
+        f.write_str("no place is left")
+    }
+}
+
+impl Error for Full {}
