@@ -1,75 +1,21 @@
 -- Elements of any list that may not be there.
-use Rattle.std.proofs.Common.{◌≡◌, ℕ, zero, suc, ◌+◌, ◌<◌, ◌≤◌, true, List, [], ◌∷◌, map, length, take, drop, set, is_some, Some, None, refl, ap, ◌∙◌, arith}
-use native.Mathlib.Numerals.{unary_clauses}
+use Rattle.std.proofs.Common.{◌≡◌, ◌≢◌, ℕ, ◌<◌, true, List, map, length, set, is_some, Some, None, arith, refl}
+use Rattle.std.proofs.lemmas.Grind.{common_steps}
+use Rattle.std.proofs.lemmas.Option.{gets, slice_get-map, slice_get-get_or}
 use Rattle.std.specs.List.{slice_get}
 
-pub nth_drop : {X : Type 0} (n : ℕ) (xs : List X) (i : ℕ) → slice_get (drop n xs) i ≡ slice_get xs (n + i)
-nth_drop zero xs i = let h : i ≡ 0 + i = omega arith in ap (slice_get xs) h
-nth_drop (suc n) [] i = refl
-nth_drop (suc n) (x ∷ xs) i = let h : suc (n + i) ≡ suc n + i = omega arith in nth_drop n xs i ∙ ap (slice_get (x ∷ xs)) h
-
-pub nth_take : {X : Type 0} (n : ℕ) (xs : List X) (i : ℕ) → i < n → slice_get (take n xs) i ≡ slice_get xs i
-nth_take zero xs i h = absurd (omega arith)
-nth_take (suc n) [] i h = refl
-nth_take (suc n) (x ∷ xs) zero h = refl
-nth_take (suc n) (x ∷ xs) (suc i) h = nth_take n xs i (omega arith)
-
-pub nth_take_past : {X : Type 0} (n : ℕ) (xs : List X) (i : ℕ) → n ≤ i → slice_get (take n xs) i ≡ None
-nth_take_past zero xs i h = refl
-nth_take_past (suc n) [] i h = refl
-nth_take_past (suc n) (x ∷ xs) zero h = absurd (omega arith)
-nth_take_past (suc n) (x ∷ xs) (suc i) h = nth_take_past n xs i (omega arith)
-
-drop_next : {X : Type 0} (xs : List X) (i : ℕ) (x : X) → slice_get xs i ≡ Some x → drop i xs ≡ x ∷ drop (suc i) xs
-drop_next [] i x e = cc
-drop_next (y ∷ ys) zero x e = let z : y ≡ x = cc in ap (λ a. a ∷ ys) z
-drop_next (y ∷ ys) (suc i) x e = drop_next ys i x e
-
-pub drop_some : {X : Type 0} (xs : List X) (i : ℕ) (x : X) → slice_get xs i ≡ Some x → drop i xs ≡ x ∷ drop (i + 1) xs
-drop_some xs i x e = simp unary_clauses (drop_next xs i x e)
-
-pub drop_none : {X : Type 0} (xs : List X) (i : ℕ) → slice_get xs i ≡ None → drop i xs ≡ []
-drop_none [] zero e = refl
-drop_none [] (suc i) e = refl
-drop_none (y ∷ ys) zero e = cc
-drop_none (y ∷ ys) (suc i) e = drop_none ys i e
-
-pub nth_none : {X : Type 0} (xs : List X) (i : ℕ) → slice_get xs i ≡ None → length xs ≤ i
-nth_none [] i e = omega arith
-nth_none (y ∷ ys) zero e = let z : ◌≡◌ {A = ℕ} 0 1 = cc in absurd (omega arith)
-nth_none (y ∷ ys) (suc i) e = let h = nth_none ys i e in omega (arith, h)
-
--- the tail of a part of a list
-pub drop_step : {X : Type 0} (v : List X) (c : ℕ) (r : X) (rs : List X) → drop c v ≡ r ∷ rs → drop (suc c) v ≡ rs
-drop_step [] zero r rs e = cc
-drop_step [] (suc c) r rs e = cc
-drop_step (x ∷ xs) zero r rs e = cc
-drop_step (x ∷ xs) (suc c) r rs e = drop_step xs c r rs e
-
 pub nth_set_same : {X : Type 0} (xs : List X) (i : ℕ) (x : X) → i < length xs → slice_get (set xs i x) i ≡ Some x
-nth_set_same [] i x h = absurd (omega arith)
-nth_set_same (y ∷ ys) zero x h = refl
-nth_set_same (y ∷ ys) (suc i) x h = nth_set_same ys i x (omega arith)
+nth_set_same xs i x h = grind (arith, common_steps, gets)
 
 pub nth_set_other : {X : Type 0} (xs : List X) (i j : ℕ) (x : X) → (j ≡ i → ⊥) → slice_get (set xs i x) j ≡ slice_get xs j
-nth_set_other [] i j x h = refl
-nth_set_other (y ∷ ys) zero zero x h = absurd (h refl)
-nth_set_other (y ∷ ys) zero (suc j) x h = refl
-nth_set_other (y ∷ ys) (suc i) zero x h = refl
-nth_set_other (y ∷ ys) (suc i) (suc j) x h = nth_set_other ys i j x (λ e. h (omega arith))
+nth_set_other xs i j x h = grind (arith, common_steps, gets)
 
 -- a place below the length holds something
 pub nth_there : {X : Type 0} (xs : List X) (i : ℕ) → i < length xs → is_some (slice_get xs i) ≡ true
-nth_there [] i h = absurd (omega arith)
-nth_there (y ∷ ys) zero h = refl
-nth_there (y ∷ ys) (suc i) h = nth_there ys i (omega arith)
+nth_there xs i h = grind (arith, common_steps, gets)
 
 pub nth_map_some : {X Y : Type 0} (f : X → Y) (xs : List X) (i : ℕ) (x : X) → slice_get xs i ≡ Some x → slice_get (map f xs) i ≡ Some (f x)
-nth_map_some f [] i x e = cc
-nth_map_some f (y ∷ ys) zero x e = let z : y ≡ x = cc in ap (λ a. Some (f a)) z
-nth_map_some f (y ∷ ys) (suc i) x e = nth_map_some f ys i x e
+nth_map_some f xs i x e = rw (slice_get-map f xs i, e) refl
 
 pub nth_map_none : {X Y : Type 0} (f : X → Y) (xs : List X) (i : ℕ) → slice_get xs i ≡ None → slice_get (map f xs) i ≡ None
-nth_map_none f [] i e = refl
-nth_map_none f (y ∷ ys) zero e = cc
-nth_map_none f (y ∷ ys) (suc i) e = nth_map_none f ys i e
+nth_map_none f xs i e = rw (slice_get-map f xs i, e) refl

@@ -11,19 +11,3 @@ rewritten_more F G xs i y h e =
 
 pub rewritten_all : {X : Type 0} (F : List X → List X) (xs : List X) (i : ℕ) → length xs ≤ i → F [] ≡ [] → take i xs ++ F (drop i xs) ≡ xs
 rewritten_all F xs i h e = rw (drop_all i xs h, e, append-nil, take_all i xs h) refl
-
--- the same value for each element
-abbrev pub filled : {X : Type 0} → X → List X → List X
-filled x xs = replicate (length xs) x
-
-filled_drop : {X : Type 0} (x : X) (xs : List X) (i : ℕ) → i < length xs → filled x (drop i xs) ≡ x ∷ filled x (drop (i + 1) xs)
-filled_drop x xs i h =
-    let e : length (drop i xs) ≡ suc (length (drop (i + 1) xs)) = omega (arith, length-drop i xs, length-drop (i + 1) xs) in
-    ap (λ n. replicate n x) e
-
-pub filled_more : {X : Type 0} (x : X) (xs : List X) (i : ℕ) → i < length xs →
-    take (i + 1) (set xs i x) ++ filled x (drop (i + 1) (set xs i x)) ≡ take i xs ++ filled x (drop i xs)
-filled_more x xs i h = rewritten_more (filled x) (filled x) xs i x h (filled_drop x xs i h)
-
-pub filled_all : {X : Type 0} (x : X) (xs : List X) (i : ℕ) → length xs ≤ i → take i xs ++ filled x (drop i xs) ≡ xs
-filled_all x xs i h = rewritten_all (filled x) xs i h refl

@@ -35,18 +35,24 @@ impl<'a, X: Copy> LentList<'a, X> {
         LentList { places, len: 0 }
     }
 
+    fn held(&self) -> &[X]
+        ensures { result.now ≡ self.now.held }
+    {
+        &self.places[..self.len]
+    }
+
     /// How many elements it holds.
     pub fn len(&self) -> usize
         ensures { result ≡ length self.now.held }
     {
-        self.len
+        self.held().len()
     }
 
     /// How many free places it has.
     pub fn room(&self) -> usize
         ensures { result ≡ length self.now.rest }
     {
-        self.places.len() - self.len
+        self.capacity() - self.len
     }
 
     /// How many places it has, taken and free.
@@ -60,7 +66,7 @@ impl<'a, X: Copy> LentList<'a, X> {
     pub fn get(&self, i: usize) -> Option<X>
         ensures { result ≡ slice_get self.now.held i }
     {
-        self.places[..self.len].get(i).copied()
+        self.held().get(i).copied()
     }
 
     /// One element more, or a refusal where no place is free.
@@ -68,7 +74,7 @@ impl<'a, X: Copy> LentList<'a, X> {
         ensures answer { is_ok result ≡ appends self.old }
         ensures list { self.new ≡ appended self.old x }
     {
-        if self.len == self.places.len() {
+        if self.room() == 0 {
             return Err(Full);
         }
         self.places[self.len] = x;
@@ -88,7 +94,7 @@ impl<'a, X: Copy> LentList<'a, X> {
         ensures answer { is_ok result ≡ writes self.old xs.now }
         ensures list { self.new ≡ written self.old xs.now }
     {
-        if xs.len() > self.places.len() {
+        if xs.len() > self.capacity() {
             return Err(Full);
         }
         self.len = xs.len();
@@ -102,6 +108,6 @@ impl<'a, X: Same> LentList<'a, X> {
     pub fn find(&self, x: X) -> Option<usize>
         ensures { First x self.now.held result }
     {
-        find(&self.places[..self.len], x)
+        find(self.held(), x)
     }
 }
