@@ -8,7 +8,7 @@ use Rattle.slots.specs.declared.slab.Slot.{Slot}
 use Rattle.slots.specs.Slots.{Slots, id_of, found, id_again, next_id, advanced, free_behind, with_slot, with_len, inserted, inserted_as, full, one_more}
 use Rattle.slots.specs.Events.{Event, Event.insert, same_id, rest, one_if_none, standing, given, removals, freed, touched}
 use Rattle.slots.specs.Laws.{Among, one_if_some, entries}
-use Rattle.tables.proofs.Lists.{nth_set_same, nth_set_other}
+use Rattle.slots.proofs.Setting.{nth_set_same, nth_set_other}
 use Rattle.slots.proofs.Finds.{made, found_new, found_again}
 use Rattle.slots.proofs.Chains.{Free, Chain, Chain.none, Chain.more, chain_kept, entries_few, entries_set, entries_more}
 use Rattle.slots.proofs.Kept.{same_is, spent, Old, Retired, Kept, refused_insert}

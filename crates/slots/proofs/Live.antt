@@ -8,7 +8,7 @@ use Rattle.slots.specs.declared.slab.Slot.{Slot}
 use Rattle.slots.specs.Slots.{Slots, found, replaced, replaced_if, full}
 use Rattle.slots.specs.Events.{Event, Event.set as put, same_id, standing, given, removals, freed}
 use Rattle.slots.specs.Laws.{Among, one_if_some}
-use Rattle.tables.proofs.Lists.{nth_set_same, nth_set_other}
+use Rattle.slots.proofs.Setting.{nth_set_same, nth_set_other}
 use Rattle.slots.proofs.Finds.{made, Held, held, found_set}
 use Rattle.slots.proofs.Chains.{chain_kept, full_off, entries_set}
 use Rattle.slots.proofs.Kept.{same_is, taken, spent, Old, Kept, refused_set}

@@ -8,7 +8,7 @@ use Rattle.slots.specs.declared.slab.Slot.{Slot}
 use Rattle.slots.specs.Slots.{Slots, found, with_len, removed, removed_if, vacated_to, empty}
 use Rattle.slots.specs.Events.{Event, Event.remove, same_id, standing, given, removals, freed}
 use Rattle.slots.specs.Laws.{Among, one_if_some}
-use Rattle.tables.proofs.Lists.{nth_set_same, nth_set_other}
+use Rattle.slots.proofs.Setting.{nth_set_same, nth_set_other}
 use Rattle.slots.proofs.Finds.{made, Held, found_out}
 use Rattle.slots.proofs.Chains.{Chain, Chain.more, chain_kept, entries_set, entries_some}
 use Rattle.slots.proofs.Kept.{same_is, taken, spent, Old, Retired, Kept, refused_remove}
