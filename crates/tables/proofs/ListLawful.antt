@@ -3,7 +3,7 @@ use Rattle.std.proofs.Common.{◌≡◌, ℕ, zero, suc, ◌<◌, ◌≤◌, tru
 use Rattle.std.proofs.lemmas.Bool.{leb-true, cond_both}
 use Rattle.std.proofs.lemmas.List.{append_assoc, append-nil, take-append-drop}
 use Rattle.std.specs.List.{slice_get}
-use Rattle.tables.specs.Listed.{Listed, laid, emptied, appended, appended_to, some_free, writes, written, First}
+use Rattle.tables.specs.Listed.{Listed, emptied, appended, appended_to, some_free, writes, written, First}
 use Rattle.tables.specs.ListLaws.{memory, appended_each, ListLaws}
 
 module _ {X : Type 0} where
