@@ -1,12 +1,13 @@
 -- Lists in the first places of a slice, and the first place of an element.
-use Rattle.std.proofs.Common.{◌≡◌, ◌≢◌, ℕ, suc, ◌+◌, ◌≤◌, Bool, true, false, cond, not, nat_lt, List, [], ◌∷◌, ◌++◌, length, drop, Some, None, refl, ap, ◌∙◌, arith}
+use Rattle.std.proofs.Common.{◌≡◌, ◌≢◌, ℕ, suc, ◌+◌, ◌≤◌, Bool, true, false, cond, not, nat_lt, List, [], ◌∷◌, ◌++◌, length, drop, set, ltb, ◌<◌, Some, None, refl, ap, ◌∙◌, arith}
 use Rattle.std.proofs.Math.Seq.{take-append_seam, drop-append_seam}
-use Rattle.std.proofs.lemmas.Bool.{le-leb, both_ways}
+use Rattle.std.proofs.lemmas.Bool.{le-leb, ltb-true, both_ways}
 use Rattle.std.proofs.lemmas.Bool.Decides.{nat_tests}
-use Rattle.std.proofs.lemmas.List.{take-append-drop}
+use Rattle.std.proofs.lemmas.List.{take-append-drop, drop_more, take_more_set, drop-set-lt}
+use Rattle.std.proofs.lemmas.Option.{cond_some}
 use Rattle.std.specs.Bool.{Decides}
 use Rattle.std.specs.List.{position, position_or_len}
-use Rattle.tables.specs.Listed.{Listed, laid, writes, written, First}
+use Rattle.tables.specs.Listed.{Listed, longer, laid, appends, appended, writes, written, First}
 
 module _ {X : Type 0} where
   -- places whose first ones were written hold what was written, and behind it what they had
@@ -16,6 +17,15 @@ module _ {X : Type 0} where
       let p = take-append-drop len places in
       let t : writes (laid len places) xs ≡ true = ap (λ k. writes k xs) v ∙ le-leb _ _ h in
       rw (← v, a, t, p, take-append_seam xs (drop (length xs) places), drop-append_seam xs (drop (length xs) places)) refl
+
+  -- places that took one element more behind the first ones
+  pub took : (l : Listed X) (len n : ℕ) (places : List X) (x : X) → laid len places ≡ l → longer len (length places) ≡ Some n →
+      (appends l ≡ true) × (laid n (set places len x) ≡ appended l x)
+  took l len n places x v e =
+      let p = cond_some (ltb len (length places)) (len + 1) n e in
+      let h = ltb-true len (length places) p.0 in
+      let k : len < len + 1 = omega arith in
+      rw (← v, ← p.1, drop_more places len x h, take_more_set places len x h, drop-set-lt (len + 1) places len x k) (refl, refl)
 
   further : (x y : X) (ys : List X) (t : Bool) (n : ℕ) → y ≢ x → First x ys (cond t (Some n) None) → First x (y ∷ ys) (cond t (Some (suc n)) None)
   further x y ys true n e f = (e, f)

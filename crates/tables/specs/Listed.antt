@@ -1,9 +1,13 @@
 -- A list over lent places: what it holds, and what lies in its free places.
-use Rattle.std.specs.Prelude.{◌≡◌, ℕ, zero, suc, ◌+◌, Bool, true, false, cond, List, [], ◌∷◌, ◌++◌, length, take, drop, Some, None, Option, ◌≢◌, nat_le}
+use Rattle.std.specs.Prelude.{◌≡◌, ℕ, zero, suc, ◌+◌, Bool, true, false, cond, List, [], ◌∷◌, ◌++◌, length, take, drop, Some, None, Option, ◌≢◌, nat_le, nat_lt}
 
 pub record Listed (X : Type 0) : Type 0 where
   pub held : List X
   pub rest : List X
+
+-- one more, where a place is left for it
+abbrev pub longer : (len places : ℕ) → Option ℕ
+longer len places = cond (nat_lt len places) (Some (len + 1)) None
 
 module _ {X : Type 0} where
   -- the first places hold the list, in order

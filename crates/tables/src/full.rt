@@ -1,4 +1,6 @@
 //! Why a list takes no more.
+ghost use Rattle.std.specs.Prelude.{Some, codes};
+
 use std::error::Error;
 use std::fmt;
 
@@ -7,6 +9,8 @@ use std::fmt;
 pub struct Full;
 
 impl fmt::Display for Full {
+    ghost output = { λ _. Some (codes "no place is left") };
+
     fn fmt<W: fmt::Write>(&self, f: &mut fmt::Formatter<W>) -> fmt::Result {
         f.write_str("no place is left")
     }

@@ -4,7 +4,7 @@ ghost use Rattle.std.specs.List.{slice_get};
 ghost use Rattle.tables.specs.Listed.{unfilled, appends, appended, emptied, writes, written, First};
 
 use crate::full::Full;
-use crate::slices::find;
+use crate::slices::{append, find};
 use records::Same;
 use std::marker::Model;
 
@@ -74,11 +74,7 @@ impl<'a, X: Copy> LentList<'a, X> {
         ensures answer { is_ok result ≡ appends self.old }
         ensures list { self.new ≡ appended self.old x }
     {
-        if self.room() == 0 {
-            return Err(Full);
-        }
-        self.places[self.len] = x;
-        self.len += 1;
+        self.len = append(self.places, self.len, x).ok_or(Full)?;
         Ok(())
     }
 
