@@ -86,6 +86,7 @@ impl<'a, X: Copy> LentList<'a, X> {
     }
 
     /// Elements from the start take the place of what it held, or a refusal where they are too many.
+    #[tactic(auto, using(crate::proofs::Laying::written_all))]
     pub fn write(&mut self, xs: &[X]) -> Result<(), Full>
         ensures answer { is_ok result ≡ writes self.old xs.now }
         ensures list { self.new ≡ written self.old xs.now }
