@@ -39,9 +39,9 @@ fn play_ids(rt: &HostRuntime) -> io::Result<()> {
     let mut places = [FIRST; 2];
     let mut list = LentList::new(&mut places);
     show_place(rt, "find 7 0", list.find(FIRST))?;
-    println!(rt; "append 7 0: {}", list.append(FIRST))?;
-    println!(rt; "append 7 1: {}", list.append(SECOND))?;
-    println!(rt; "append 7 0: {}", list.append(FIRST))?;
+    println!(rt; "append 7 0: {}", list.append(FIRST).is_ok())?;
+    println!(rt; "append 7 1: {}", list.append(SECOND).is_ok())?;
+    println!(rt; "append 7 0: {}", list.append(FIRST).is_ok())?;
     show_sizes(rt, "then", &list)?;
     show_place(rt, "find 7 1", list.find(SECOND))?;
     list.clear();
@@ -53,9 +53,9 @@ fn play_iovecs(rt: &HostRuntime) -> io::Result<()> {
     println!(rt; "== iovecs in two places")?;
     let mut places = [PIECE; 2];
     let mut list = LentList::new(&mut places);
-    println!(rt; "write three: {}", list.write(&[PIECE, REST, PIECE]))?;
+    println!(rt; "write three: {}", list.write(&[PIECE, REST, PIECE]).is_ok())?;
     show_sizes(rt, "then", &list)?;
-    println!(rt; "write two: {}", list.write(&[PIECE, REST]))?;
+    println!(rt; "write two: {}", list.write(&[PIECE, REST]).is_ok())?;
     show_sizes(rt, "then", &list)?;
     show_place(rt, "find 8192 100", list.find(REST))?;
     match list.get(1) {
@@ -68,9 +68,9 @@ fn play_deferred(rt: &HostRuntime) -> io::Result<()> {
     println!(rt; "== deferred work in one place")?;
     let mut places = [Deferred::Drop { waker: 0 }; 1];
     let mut list = LentList::new(&mut places);
-    let woken = list.append(Deferred::Wake { waker: 5 });
+    let woken = list.append(Deferred::Wake { waker: 5 }).is_ok();
     println!(rt; "append wake 5: {woken}")?;
-    let dropped = list.append(Deferred::Drop { waker: 6 });
+    let dropped = list.append(Deferred::Drop { waker: 6 }).is_ok();
     println!(rt; "append drop 6: {dropped}")?;
     show_sizes(rt, "then", &list)
 }

@@ -21,7 +21,7 @@ pub struct ChunkRow {
 }
 
 /// One element of a vectored submission's list, as the kernel reads it.
-#[derive(Clone, Copy)]
+#[derive(Clone, Copy, PartialEq, Eq)]
 pub struct Iovec {
     pub base: u64,
     pub length: u64,

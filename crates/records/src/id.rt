@@ -6,18 +6,18 @@ ghost use Rattle.records.specs.Words.{id_text, file_text};
 use std::fmt;
 
 /// Handle to a slot: it stops resolving once its slot is removed.
-#[derive(Clone, Copy)]
+#[derive(Clone, Copy, PartialEq, Eq)]
 pub struct Id {
     pub index: u32,
     pub generation: u64,
 }
 
 /// A waiter's slot.
-#[derive(Clone, Copy)]
+#[derive(Clone, Copy, PartialEq, Eq)]
 pub struct WaiterId(pub Id);
 
 /// An open file's slot.
-#[derive(Clone, Copy)]
+#[derive(Clone, Copy, PartialEq, Eq)]
 pub struct FileId(pub Id);
 
 impl WaiterId {

@@ -1,29 +1,27 @@
-//! Equality that is decided, for looking an element up.
+//! Elements that `==` tells apart, for looking one up.
 ghost use Rattle.std.specs.Prelude.{◌≡◌, Decides};
+ghost use Rattle.std.proofs.Common.{rules};
 
 use crate::buffer::Iovec;
-use crate::id::{Id, WaiterId};
+use crate::id::{FileId, Id, WaiterId};
 
-/// An element that can be told from every other.
-pub trait Same: Copy {
-    fn same(self, other: Self) -> bool
-        ensures { Decides result (self ≡ other) };
+/// Equal is identical: `==` reads the whole element.
+pub trait Same: Copy + Eq {
+    ghost identical: { (x y : Self) → Decides (Self.eq x y) (x ≡ y) };
 }
 
 impl Same for Id {
-    fn same(self, other: Id) -> bool {
-        self.index == other.index && self.generation == other.generation
-    }
+    ghost identical = { Prim.search rules };
 }
 
 impl Same for WaiterId {
-    fn same(self, other: WaiterId) -> bool {
-        self.0.same(other.0)
-    }
+    ghost identical = { Prim.search rules };
+}
+
+impl Same for FileId {
+    ghost identical = { Prim.search rules };
 }
 
 impl Same for Iovec {
-    fn same(self, other: Iovec) -> bool {
-        self.base == other.base && self.length == other.length
-    }
+    ghost identical = { Prim.search rules };
 }

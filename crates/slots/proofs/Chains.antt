@@ -1,5 +1,6 @@
 -- The free slots of a slab, and the number of its entries.
 use Rattle.std.proofs.Common.{◌≡◌, ℕ, zero, suc, ◌+◌, ◌<◌, ◌≤◌, List, [], ◌∷◌, length, take, set, Some, None, Option, sym, ap, ◌∙◌, inl, inr, arith}
+use Rattle.std.proofs.lemmas.Option.{none-some}
 use Rattle.std.specs.List.{slice_get}
 use Rattle.slots.specs.declared.slab.Slot.{Slot}
 use Rattle.slots.specs.Laws.{Among, Apart, Links, Links.end, Links.link, one_if_some, entries}
@@ -54,16 +55,13 @@ module _ {T : Type 0} where
       link j is free.slot free.here (rw free.after (chain_links slots used gen rest))
 
   -- a slot with an entry, and one never used, are off the chain
-  clash : (o : Option T) (x : T) → o ≡ Some x → o ≡ None → ⊥
-  clash o x e f = let z : ◌≡◌ {A = ℕ} 0 1 = cc in omega arith
-
   pub full_off : (slots : List (Slot T)) (used : ℕ) (gen : ℕ → ℕ) (f : Option ℕ) (is : List ℕ) → Chain slots used gen f is →
       (i : ℕ) (slot : Slot T) (x : T) → slice_get slots i ≡ Some slot → slot.value ≡ Some x → Among i is → ⊥
   full_off slots used gen f is c i slot x e v a =
       let p = chain_at slots used gen c i a in
       let same : Some p.1.slot ≡ Some slot = sym p.1.here ∙ e in
       let q : p.1.slot.value ≡ slot.value = cc in
-      clash slot.value x v (sym q ∙ p.1.empty)
+      none-some x (sym p.1.empty ∙ q ∙ v)
 
   pub past_off : (slots : List (Slot T)) (used : ℕ) (gen : ℕ → ℕ) (f : Option ℕ) (is : List ℕ) → Chain slots used gen f is →
       (i : ℕ) → used ≤ i → Among i is → ⊥

@@ -6,7 +6,7 @@ use Rattle.records.specs.declared.id.Id.{Id}
 use Rattle.slots.specs.declared.slab.Slot.{Slot}
 use Rattle.slots.specs.Slots.{Slots, id_of, found, full, empty}
 use Rattle.slots.specs.Events.{same_id}
-use Rattle.tables.proofs.Lists.{nth_set_same, nth_set_other}
+use Rattle.slots.proofs.Setting.{nth_set_same, nth_set_other}
 
 module _ {T : Type 0} where
   abbrev pub made : List (Slot T) → ℕ → Option ℕ → ℕ → Slots T

@@ -8,10 +8,10 @@ use Rattle.slots.specs.declared.slab.Slot.{Slot}
 use Rattle.slots.specs.Slots.{Slots, id_of, found, id_again, next_id, advanced, free_behind, with_slot, with_len, inserted, inserted_as, full, one_more}
 use Rattle.slots.specs.Events.{Event, Event.insert, same_id, rest, one_if_none, standing, given, removals, freed, touched}
 use Rattle.slots.specs.Laws.{Among, one_if_some, entries}
-use Rattle.tables.proofs.Lists.{nth_set_same, nth_set_other}
+use Rattle.slots.proofs.Setting.{nth_set_same, nth_set_other}
 use Rattle.slots.proofs.Finds.{made, found_new, found_again}
 use Rattle.slots.proofs.Chains.{Free, Chain, Chain.none, Chain.more, chain_kept, entries_few, entries_set, entries_more}
-use Rattle.slots.proofs.Kept.{same_is, spent, Old, Retired, Kept, refused_insert}
+use Rattle.slots.proofs.Kept.{same_is, spent, Old, Retired, Kept}
 
 module _ {T : Type 0} where
   -- an entry goes into the slot at i, at generation g, and the free list loses its first slot, if it has one
@@ -183,7 +183,7 @@ module _ {T : Type 0} where
       let a : min (used + 1) 18446744073709551615 ≡ used + 1 = omega (arith, b) in
       let c : min (len + 1) 18446744073709551615 ≡ len + 1 = omega (arith, b, few) in
       rw (a, c) (took table slots used (used + 1) None None len h x used 0 k (taking_new table slots used len h x k e b)))
-      (λ t. refused_insert table (made slots used None len) h x k)
+      (λ t. k)
   inserting table slots used len h x (more i next is free apart rest_of) e k =
       let bd : used ≤ min (length table) 65536 = k.bounded in
       let few : len ≤ used = let c = k.count in let m = entries_few used slots in omega (arith, c, m) in

@@ -1,5 +1,5 @@
 -- What holds of a slab and its record; a refused call keeps it.
-use Rattle.std.proofs.Common.{◌≡◌, ℕ, ◌+◌, ◌<◌, ◌≤◌, min, Bool, true, false, cond, ◌&&◌, eqb, ltb, List, [], ◌∷◌, length, take, Some, None, refl, arith}
+use Rattle.std.proofs.Common.{◌≡◌, ℕ, ◌+◌, ◌<◌, ◌≤◌, min, Bool, true, false, cond, ◌&&◌, eqb, ltb, List, [], ◌∷◌, length, take, Some, None, Option, refl, arith}
 use Rattle.std.specs.List.{slice_get}
 use Rattle.std.proofs.lemmas.Bool.{and_parts, eqb-true, ne_eqb, and_left}
 use Rattle.std.proofs.lemmas.Bool.Decides.{nat_tests}
@@ -49,20 +49,26 @@ module _ {T : Type 0} where
   abbrev pub Retired : List (Slot T) → ℕ → List ℕ → ℕ → Type 0
   Retired slots used is i = (i < used) × (Among i is → ⊥) × ((slot : Slot T) → slice_get slots i ≡ Some slot → slot.value ≡ None)
 
-  pub record Kept (table : List (Slot T)) (s : Slots T) (h : List (Event T)) : Type 0 where
+  -- of the record only these numbers and tests are used, so a refused call, which changes none, keeps it as it stands
+  pub record KeptBy (table : List (Slot T)) (s : Slots T) (stands : Id → Option T) (gave takes : Id → Bool) (out : ℕ → ℕ) (ends : ℕ → Bool)
+      (frees : List ℕ) (touches comes leaves : ℕ) : Type 0 where
     pub size : length s.slots ≡ length table
-    pub used : s.used ≡ touched h
+    pub used : s.used ≡ touches
     pub bounded : s.used ≤ min (length table) 65536
-    pub resolves : (id : Id) → found s id ≡ standing id h
-    pub chain : Chain s.slots s.used (λ i. removals i h) s.free (freed h)
-    pub times : (i : ℕ) (slot : Slot T) (x : T) → i < s.used → slice_get s.slots i ≡ Some slot → slot.value ≡ Some x → slot.generation ≡ removals i h
-    pub unseen : (i : ℕ) → s.used ≤ i → removals i h ≡ 0
-    pub old : (id : Id) → given id h ≡ true → Old s.slots s.used (freed h) id
-    pub known : (id : Id) (x : T) → standing id h ≡ Some x → given id h ≡ true
-    pub gone : (id : Id) → taken id h ≡ true → (standing id h ≡ None) × (given id h ≡ true)
-    pub spends : (i : ℕ) → spent i h ≡ true → Retired s.slots s.used (freed h) i
+    pub resolves : (id : Id) → found s id ≡ stands id
+    pub chain : Chain s.slots s.used out s.free frees
+    pub times : (i : ℕ) (slot : Slot T) (x : T) → i < s.used → slice_get s.slots i ≡ Some slot → slot.value ≡ Some x → slot.generation ≡ out i
+    pub unseen : (i : ℕ) → s.used ≤ i → out i ≡ 0
+    pub old : (id : Id) → gave id ≡ true → Old s.slots s.used frees id
+    pub known : (id : Id) (x : T) → stands id ≡ Some x → gave id ≡ true
+    pub gone : (id : Id) → takes id ≡ true → (stands id ≡ None) × (gave id ≡ true)
+    pub spends : (i : ℕ) → ends i ≡ true → Retired s.slots s.used frees i
     pub count : s.len ≡ entries (take s.used s.slots)
-    pub balance : s.len + left h ≡ came h
+    pub balance : s.len + leaves ≡ comes
+
+  abbrev pub Kept : List (Slot T) → Slots T → List (Event T) → Type 0
+  Kept table s h = KeptBy table s (λ id. standing id h) (λ id. given id h) (λ id. taken id h) (λ i. removals i h) (λ i. spent i h)
+      (freed h) (touched h) (came h) (left h)
 
   pub begun : (table : List (Slot T)) → Kept table (fresh table) []
   begun table = record {
@@ -79,57 +85,4 @@ module _ {T : Type 0} where
     spends = λ i e. let z : ◌≡◌ {A = ℕ} 0 1 = cc in absurd (omega arith);
     count = refl;
     balance = refl;
-  }
-
-  -- a refused call leaves all as it was
-
-  pub refused_insert : (table : List (Slot T)) (s : Slots T) (h : List (Event T)) (x : T) → Kept table s h → Kept table s (insert x None ∷ h)
-  refused_insert table s h x k = record {
-    size = k.size;
-    used = k.used;
-    bounded = k.bounded;
-    resolves = k.resolves;
-    chain = k.chain;
-    times = k.times;
-    unseen = k.unseen;
-    old = k.old;
-    known = k.known;
-    gone = k.gone;
-    spends = k.spends;
-    count = k.count;
-    balance = k.balance;
-  }
-
-  pub refused_set : (table : List (Slot T)) (s : Slots T) (h : List (Event T)) (id : Id) (x : T) → Kept table s h → Kept table s (put id x false ∷ h)
-  refused_set table s h id x k = record {
-    size = k.size;
-    used = k.used;
-    bounded = k.bounded;
-    resolves = k.resolves;
-    chain = k.chain;
-    times = k.times;
-    unseen = k.unseen;
-    old = k.old;
-    known = k.known;
-    gone = k.gone;
-    spends = k.spends;
-    count = k.count;
-    balance = k.balance;
-  }
-
-  pub refused_remove : (table : List (Slot T)) (s : Slots T) (h : List (Event T)) (id : Id) → Kept table s h → Kept table s (remove id None ∷ h)
-  refused_remove table s h id k = record {
-    size = k.size;
-    used = k.used;
-    bounded = k.bounded;
-    resolves = k.resolves;
-    chain = k.chain;
-    times = k.times;
-    unseen = k.unseen;
-    old = k.old;
-    known = k.known;
-    gone = k.gone;
-    spends = k.spends;
-    count = k.count;
-    balance = k.balance;
   }

@@ -3,12 +3,13 @@ use Rattle.std.proofs.Common.{◌≡◌, ℕ, ◌<◌, ◌≤◌, min, Bool, tru
 use Rattle.std.specs.List.{slice_get}
 use Rattle.std.proofs.lemmas.Bool.{and_from, eq-eqb, le-ltb, cases_Bool, cond-true, cond-false}
 use Rattle.std.proofs.lemmas.Bool.Decides.{nat_tests}
+use Rattle.std.proofs.lemmas.Grind.{common_steps}
+use Rattle.std.proofs.lemmas.Option.{gets}
 use Rattle.records.specs.declared.id.Id.{Id}
 use Rattle.slots.specs.declared.slab.Slot.{Slot}
 use Rattle.slots.specs.Slots.{Slots, id_of, id_again, id_at, found, next_id, inserted, replaced, removed}
 use Rattle.slots.specs.Events.{Event, Event.insert, Event.set as put, Event.remove, Reached, Reached.begins, Reached.inserts, Reached.sets, Reached.removes, same_id, given, removals, freed, touched, due_from}
 use Rattle.slots.specs.Laws.{Among, Lawful, SlabLaws}
-use Rattle.tables.proofs.Lists.{nth_there}
 use Rattle.slots.proofs.Finds.{made, Held, held}
 use Rattle.slots.proofs.Chains.{Chain, Chain.none, Chain.more, chain_at, chain_apart, chain_links, entries_few, entries_some}
 use Rattle.slots.proofs.Kept.{Kept, taken, spent, begun}
@@ -97,7 +98,7 @@ module _ {T : Type 0} where
     comes id e = coming s.slots s.used s.len (λ i. removals i h) k.chain id e
 
     there_in : (i : ℕ) → i < s.used → is_some (slice_get s.slots i) ≡ true
-    there_in i b = let n = k.size in let u = k.bounded in nth_there s.slots i (omega (arith, b, n, u))
+    there_in i b = let n = k.size in let u = k.bounded in let l : i < length s.slots = omega (arith, b, n, u) in grind (arith, common_steps, gets)
 
     slot_of : (i : ℕ) → i < s.used → (o : Option (Slot T)) → slice_get s.slots i ≡ o → (slot : Slot T) × (slice_get s.slots i ≡ Some slot)
     slot_of i b (Some slot) e = (slot, e)

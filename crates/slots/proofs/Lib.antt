@@ -1,3 +1,4 @@
+pub mod Setting
 pub mod Finds
 pub mod Chains
 pub mod Kept

@@ -8,10 +8,10 @@ use Rattle.slots.specs.declared.slab.Slot.{Slot}
 use Rattle.slots.specs.Slots.{Slots, found, replaced, replaced_if, full}
 use Rattle.slots.specs.Events.{Event, Event.set as put, same_id, standing, given, removals, freed}
 use Rattle.slots.specs.Laws.{Among, one_if_some}
-use Rattle.tables.proofs.Lists.{nth_set_same, nth_set_other}
+use Rattle.slots.proofs.Setting.{nth_set_same, nth_set_other}
 use Rattle.slots.proofs.Finds.{made, Held, held, found_set}
 use Rattle.slots.proofs.Chains.{chain_kept, full_off, entries_set}
-use Rattle.slots.proofs.Kept.{same_is, taken, spent, Old, Kept, refused_set}
+use Rattle.slots.proofs.Kept.{same_is, taken, spent, Old, Kept}
 
 module _ {T : Type 0} where
   -- a live id and its slot
@@ -105,7 +105,7 @@ module _ {T : Type 0} where
   setting : (table : List (Slot T)) (s : Slots T) (h : List (Event T)) (j : Id) (x : T) → Kept table s h → (o : Option T) → found s j ≡ o →
       Kept table (replaced_if o s j x) (put j x (is_some o) ∷ h)
   setting table s h j x k (Some old) e = replaced_kept table s h j old k e x
-  setting table s h j x k None e = refused_set table s h j x k
+  setting table s h j x k None e = k
 
   pub kept_set : (table : List (Slot T)) (s : Slots T) (h : List (Event T)) (j : Id) (x : T) → Kept table s h → Kept table (replaced s j x) (put j x (is_some (found s j)) ∷ h)
   kept_set table s h j x k = setting table s h j x k (found s j) refl

@@ -8,10 +8,10 @@ use Rattle.slots.specs.declared.slab.Slot.{Slot}
 use Rattle.slots.specs.Slots.{Slots, found, with_len, removed, removed_if, vacated_to, empty}
 use Rattle.slots.specs.Events.{Event, Event.remove, same_id, standing, given, removals, freed}
 use Rattle.slots.specs.Laws.{Among, one_if_some}
-use Rattle.tables.proofs.Lists.{nth_set_same, nth_set_other}
+use Rattle.slots.proofs.Setting.{nth_set_same, nth_set_other}
 use Rattle.slots.proofs.Finds.{made, Held, found_out}
 use Rattle.slots.proofs.Chains.{Chain, Chain.more, chain_kept, entries_set, entries_some}
-use Rattle.slots.proofs.Kept.{same_is, taken, spent, Old, Retired, Kept, refused_remove}
+use Rattle.slots.proofs.Kept.{same_is, taken, spent, Old, Retired, Kept}
 use Rattle.slots.proofs.Live.{at_hand, here, off_chain, lives, other_index}
 
 module _ {T : Type 0} where
@@ -181,7 +181,7 @@ module _ {T : Type 0} where
   removing : (table : List (Slot T)) (s : Slots T) (h : List (Event T)) (j : Id) → Kept table s h → (o : Option T) → found s j ≡ o →
       Kept table (removed_if o s j) (remove j o ∷ h)
   removing table s h j k (Some x) e = removed_kept table s h j x k e
-  removing table s h j k None e = refused_remove table s h j k
+  removing table s h j k None e = k
 
   pub kept_remove : (table : List (Slot T)) (s : Slots T) (h : List (Event T)) (j : Id) → Kept table s h → Kept table (removed s j) (remove j (found s j) ∷ h)
   kept_remove table s h j k = removing table s h j k (found s j) refl

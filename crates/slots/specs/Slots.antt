@@ -3,7 +3,6 @@ use Rattle.std.specs.Prelude.{ℕ, ◌+◌, ◌-◌, min, cond, List, length, So
 use Rattle.std.specs.List.{slice_get}
 use Rattle.records.specs.declared.id.Id.{Id}
 use Rattle.slots.specs.declared.slab.Slot.{Slot}
-use Rattle.slots.specs.declared.slab.Slab.{Slab}
 
 -- the slots from `used` on were never used; `free` is the slot freed last, whose `next` was freed before it, and so on
 pub record Slots (T : Type 0) : Type 0 where
@@ -26,9 +25,6 @@ id_of i g = record { index = i; generation = g }
 module _ {T : Type 0} where
   abbrev pub unused_slot : Slot T
   unused_slot = record { generation = 0; value = None; next = None }
-
-  abbrev pub slab : Slab T → Slots T
-  slab s = record { slots = s.slots.now; used = s.used; free = s.free; len = s.len }
 
   -- nothing is looked at in the caller's slots
   abbrev pub fresh : List (Slot T) → Slots T

@@ -1,77 +1,46 @@
 //! The entries of a slab. No call walks the slots.
 ghost use Rattle.std.specs.Prelude.{◌≡◌, is_some};
-ghost use Rattle.std.specs.List.{slice_get};
-ghost use Rattle.slots.specs.Slots.{slab, capacity, found, resolves, next_generation, id_of, id_again, next_id, advanced, inserted, replaced, vacated, removed, id_at};
+ghost use Rattle.slots.specs.Slots.{capacity, found, next_id, advanced, inserted, replaced, with_slot, vacated, removed, id_at};
 
-use crate::slab::{Slab, Slot, empty_slot, full_slot};
+use crate::slab::{Slab, Slot};
 use records::Id;
-use tables::{at, put};
 
 /// The slots that a slab uses of its caller's table.
 const SLAB_SLOTS: usize = 65536;
 
-// The entry of a slot, for the incarnation that is meant.
-pub(crate) fn entry_of<T: Copy>(slot: Slot<T>, generation: u64) -> Option<T>
-    ensures { result ≡ resolves slot generation }
-{
-    if slot.generation != generation {
-        return None;
-    }
-    slot.value
-}
-
-// The generation after this one; the last one has none.
-pub(crate) fn next_generation(generation: u64) -> Option<u64>
-    ensures { result ≡ next_generation generation }
-{
-    generation.checked_add(1)
-}
-
-// The id of a slot at its first use, whatever the slot holds.
-pub(crate) fn first_id(index: u32) -> Id
-    ensures { result ≡ id_of index 0 }
-{
-    Id {
-        index,
-        generation: 0,
-    }
-}
-
 impl<'a, T: Copy> Slab<'a, T> {
     fn capacity(&self) -> usize
-        ensures { result ≡ capacity (slab self.now) }
+        ensures { result ≡ capacity self.now }
     {
         self.slots.len().min(SLAB_SLOTS)
     }
 
-    fn slot(&self, index: usize) -> Option<Slot<T>>
-        ensures { result ≡ slice_get (slab self.now).slots index }
-    {
-        at(self.slots, index)
-    }
+    // Lookups leave by `let .. else`, one exit for each thing that is not there: a rule of this project (docs/DECISIONS.md).
 
     /// The live entry of an id.
     pub fn get(&self, id: Id) -> Option<T>
-        ensures { result ≡ found (slab self.now) id }
+        ensures { result ≡ found self.now id }
     {
-        let index = id.index as usize;
-        if index >= self.used {
+        if id.index as usize >= self.used {
             return None;
         }
-        let Some(slot) = self.slot(index) else {
+        let Some(slot) = self.slots.get(id.index as usize) else {
             return None;
         };
-        entry_of(slot, id.generation)
+        if slot.generation != id.generation {
+            return None;
+        }
+        slot.value
     }
 
     /// The id of the live entry at an index.
     pub fn id_at(&self, index: u32) -> Option<Id>
-        ensures { result ≡ id_at (slab self.now) index }
+        ensures { result ≡ id_at self.now index }
     {
         if index as usize >= self.used {
             return None;
         }
-        let Some(slot) = self.slot(index as usize) else {
+        let Some(slot) = self.slots.get(index as usize) else {
             return None;
         };
         let Some(_) = slot.value else {
@@ -83,99 +52,113 @@ impl<'a, T: Copy> Slab<'a, T> {
         })
     }
 
-    // The id of a slot that was used before.
-    fn id_again(&self, index: u32) -> Option<Id>
-        ensures { result ≡ id_again index (slice_get (slab self.now).slots index) }
-    {
-        let Some(slot) = self.slot(index as usize) else {
-            return None;
-        };
-        Some(Id {
-            index,
-            generation: slot.generation,
-        })
-    }
-
     /// The id that the next insertion gives: of the slot freed last, else of the next one never used.
     pub fn next_id(&self) -> Option<Id>
-        ensures { result ≡ next_id (slab self.now) }
+        ensures { result ≡ next_id self.now }
     {
-        let Some(index) = self.free else {
-            if self.used >= self.capacity() {
-                return None;
-            }
-            return Some(first_id(self.used as u32));
-        };
-        self.id_again(index)
+        match self.free {
+            Some(index) => self.slots.get(index as usize).map(|slot| Id {
+                index,
+                generation: slot.generation,
+            }),
+            None if self.used < self.capacity() => Some(Id {
+                index: self.used as u32,
+                generation: 0,
+            }),
+            None => None,
+        }
     }
 
     // The chosen slot is no longer free, or one slot more is in use.
     fn advance(&mut self)
-        ensures { slab self.new ≡ advanced (slab self.old) }
+        ensures { self.new ≡ advanced self.old }
     {
         let Some(index) = self.free else {
             self.used = self.used.saturating_add(1);
             return;
         };
-        let Some(slot) = self.slot(index as usize) else {
-            return;
-        };
-        self.free = slot.next;
+        let index = index as usize;
+        if index < self.slots.len() {
+            self.free = self.slots[index].next;
+        }
+    }
+
+    // Past the end nothing is written. (`get_mut` says nothing of what the slice ends as.)
+    fn put(&mut self, index: u32, slot: Slot<T>)
+        ensures { self.new ≡ with_slot self.old index slot }
+    {
+        let index = index as usize;
+        if index < self.slots.len() {
+            self.slots[index] = slot;
+        }
     }
 
     /// Stores an entry under the id that comes next, or refuses where no slot is left.
     pub fn insert(&mut self, value: T) -> Option<Id>
-        ensures answer { result ≡ next_id (slab self.old) }
-        ensures after { slab self.new ≡ inserted (slab self.old) value }
+        ensures answer { result ≡ next_id self.old }
+        ensures after { self.new ≡ inserted self.old value }
     {
-        let Some(id) = self.next_id() else {
-            return None;
-        };
+        let id = self.next_id()?;
         self.advance();
-        let filled = full_slot(id.generation, value);
-        put(self.slots, id.index as usize, filled);
+        let filled = Slot {
+            generation: id.generation,
+            value: Some(value),
+            next: None,
+        };
+        self.put(id.index, filled);
         self.len = self.len.saturating_add(1);
         Some(id)
     }
 
     /// Stores another value under a live id; whether there is one.
+    // A bool, as of a set's `insert`: no value comes back, and an id that is not live is no error of the slab's.
     pub fn set(&mut self, id: Id, value: T) -> bool
-        ensures answer { result ≡ is_some (found (slab self.old) id) }
-        ensures after { slab self.new ≡ replaced (slab self.old) id value }
+        ensures answer { result ≡ is_some (found self.old id) }
+        ensures after { self.new ≡ replaced self.old id value }
     {
-        let Some(_) = self.get(id) else {
+        if self.get(id).is_none() {
             return false;
+        }
+        let replaced = Slot {
+            generation: id.generation,
+            value: Some(value),
+            next: None,
         };
-        let replaced = full_slot(id.generation, value);
-        put(self.slots, id.index as usize, replaced);
+        self.put(id.index, replaced);
         true
     }
 
     // The slot becomes the one freed last, in its next generation; after the last one it is retired.
     fn vacate(&mut self, id: Id)
-        ensures { slab self.new ≡ vacated (slab self.old) id }
+        ensures { self.new ≡ vacated self.old id }
     {
-        let Some(generation) = next_generation(id.generation) else {
-            put(
-                self.slots,
-                id.index as usize,
-                empty_slot(id.generation, None),
-            );
-            return;
-        };
-        let vacant = empty_slot(generation, self.free);
-        put(self.slots, id.index as usize, vacant);
-        self.free = Some(id.index);
+        match id.generation.checked_add(1) {
+            Some(generation) => {
+                let vacant = Slot {
+                    generation,
+                    value: None,
+                    next: self.free,
+                };
+                self.put(id.index, vacant);
+                self.free = Some(id.index);
+            }
+            None => {
+                let retired = Slot {
+                    generation: id.generation,
+                    value: None,
+                    next: None,
+                };
+                self.put(id.index, retired);
+            }
+        }
     }
 
     /// Takes a live entry out; its id never finds anything again.
     pub fn remove(&mut self, id: Id) -> Option<T>
-        ensures answer { result ≡ found (slab self.old) id }
-        ensures after { slab self.new ≡ removed (slab self.old) id }
+        ensures answer { result ≡ found self.old id }
+        ensures after { self.new ≡ removed self.old id }
     {
-        let Some(value) = self.get(id) else {
-            return None;
-        };
+        let value = self.get(id)?;
         self.vacate(id);
         self.len = self.len.saturating_sub(1);
         Some(value)

@@ -2,7 +2,6 @@
 ghost use Rattle.std.specs.Prelude.{[], ◌∷◌};
 ghost use Rattle.slots.specs.Events.{Event.insert, Event.set, Event.remove};
 ghost use Rattle.slots.specs.Laws.{Carries, SlabLaws};
-ghost use Rattle.slots.specs.Slots.{slab};
 
 use crate::slab::Slab;
 use records::Id;
@@ -20,7 +19,7 @@ pub(crate) fn calls_make_a_record<T: Copy>(
     id: Id,
     x: T,
 ) -> (Option<Id>, bool, Option<T>)
-    ensures { Carries (slab entries.old) (slab entries.new) (remove id result.2 ∷ (set id x result.1 ∷ (insert x result.0 ∷ []))) }
+    ensures { Carries entries.old entries.new (remove id result.2 ∷ (set id x result.1 ∷ (insert x result.0 ∷ []))) }
 {
     let given = entries.insert(x);
     let live = entries.set(id, x);

@@ -1,6 +1,8 @@
 //! A slab over lent slots: what it is made of, and its counts.
 ghost use Rattle.std.specs.Prelude.{◌≡◌};
-ghost use Rattle.slots.specs.Slots.{slab, fresh, empty, full, unused_slot};
+ghost use Rattle.slots.specs.Slots.{fresh, unused_slot};
+
+use std::marker::Model;
 
 /// One slot and its present incarnation.
 #[derive(Clone, Copy)]
@@ -14,6 +16,7 @@ pub struct Slot<T> {
 }
 
 /// Entries in the caller's slots, each found by the id that it was given.
+// The free slots are linked by index, and not kept in a `Vec`: no heap, the memory is the caller's.
 #[derive(Drop)]
 pub struct Slab<'a, T> {
     pub(crate) slots: &'a mut [Slot<T>],
@@ -24,24 +27,12 @@ pub struct Slab<'a, T> {
     pub(crate) len: usize,
 }
 
-pub(crate) fn empty_slot<T: Copy>(generation: u64, next: Option<u32>) -> Slot<T>
-    ensures { result ≡ empty generation next }
-{
-    Slot {
-        generation,
-        value: None,
-        next,
-    }
-}
+impl<'a, T> Model for Slab<'a, T> {
+    ghost use Rattle.slots.specs.Slots.{Slots};
 
-pub(crate) fn full_slot<T: Copy>(generation: u64, value: T) -> Slot<T>
-    ensures { result ≡ full generation value }
-{
-    Slot {
-        generation,
-        value: Some(value),
-        next: None,
-    }
+    ghost Value = { Slots T };
+
+    ghost view = { λ s. record { slots = s.slots.now; used = s.used; free = s.free; len = s.len } };
 }
 
 impl<T: Copy> Slot<T> {
@@ -49,14 +40,18 @@ impl<T: Copy> Slot<T> {
     pub fn unused() -> Slot<T>
         ensures { result ≡ unused_slot }
     {
-        empty_slot(0, None)
+        Slot {
+            generation: 0,
+            value: None,
+            next: None,
+        }
     }
 }
 
 impl<'a, T: Copy> Slab<'a, T> {
     /// An empty slab: what the slots hold does not matter.
     pub fn new(slots: &'a mut [Slot<T>]) -> Self
-        ensures { slab result ≡ fresh slots.old }
+        ensures { result ≡ fresh slots.old }
     {
         Slab {
             slots,
@@ -68,14 +63,14 @@ impl<'a, T: Copy> Slab<'a, T> {
 
     /// How many entries are live.
     pub fn len(&self) -> usize
-        ensures { result ≡ (slab self.now).len }
+        ensures { result ≡ self.now.len }
     {
         self.len
     }
 
     /// How many slots were ever used.
     pub fn slots(&self) -> usize
-        ensures { result ≡ (slab self.now).used }
+        ensures { result ≡ self.now.used }
     {
         self.used
     }

@@ -1,4 +1,2 @@
-pub mod Lists
-pub mod Rewriting
 pub mod Laying
 pub mod ListLawful

@@ -1,16 +1,12 @@
 -- Every list over lent places is lawful.
 use Rattle.std.proofs.Common.{◌≡◌, ℕ, zero, suc, ◌<◌, ◌≤◌, true, false, List, [], ◌∷◌, ◌++◌, length, drop, Some, None, Option, sym, refl, ap, ◌∙◌, arith, length-append, length-drop}
 use Rattle.std.proofs.lemmas.Bool.{leb-true, cond_both}
+use Rattle.std.proofs.lemmas.List.{append_assoc, append-nil, take-append-drop}
 use Rattle.std.specs.List.{slice_get}
-use Rattle.tables.specs.Listed.{Listed, laid, emptied, appended, appended_to, some_free, writes, written, First}
+use Rattle.tables.specs.Listed.{Listed, emptied, appended, appended_to, some_free, writes, written, First}
 use Rattle.tables.specs.ListLaws.{memory, appended_each, ListLaws}
-use Rattle.tables.proofs.Laying.{parts, laid_none, extended, extended_emptied}
 
 module _ {X : Type 0} where
-  all_parts : (n : ℕ) (places : List X) → memory (laid n places) ≡ places
-  unfolding laid
-  all_parts n places = parts n places
-
   no_place : (l : Listed X) (x : X) (rest : List X) → rest ≡ [] → (some_free rest ≡ false) × (appended_to l x rest ≡ l)
   no_place l x [] e = (refl, refl)
   no_place l x (p ∷ ps) e = let z : ◌≡◌ {A = ℕ} 0 1 = cc in absurd (omega arith)
@@ -38,10 +34,17 @@ module _ {X : Type 0} where
       omega (arith, a, b, c, d))
       (λ t. refl)
 
-  each_is : (l : Listed X) (xs : List X) → extended l xs ≡ appended_each l xs
-  unfolding extended
-  each_is l [] = refl
-  each_is l (x ∷ xs) = each_is (appended l x) xs
+  appending : (held rest xs : List X) → length xs ≤ length rest →
+      appended_each (record { held = held; rest = rest }) xs ≡ record { held = held ++ xs; rest = drop (length xs) rest }
+  appending held rest [] h = ap (λ ys. record { held = ys; rest = rest }) (sym (append-nil held))
+  appending held [] (x ∷ xs) h = absurd (omega arith)
+  appending held (p ∷ ps) (x ∷ xs) h =
+      appending (held ++ (x ∷ [])) ps xs (omega arith) ∙ ap (λ ys. record { held = ys; rest = drop (length xs) ps }) (append_assoc held (x ∷ []) xs)
+
+  by_each : (l : Listed X) (xs : List X) → writes l xs ≡ true → written l xs ≡ appended_each (emptied l) xs
+  by_each l xs t =
+      let a : length xs ≤ length (l.held ++ l.rest) = simp length-append (leb-true _ _ t) in
+      rw t (sym (appending [] (l.held ++ l.rest) xs a))
 
   once : (x : X) (xs : List X) (a b : Option ℕ) → First x xs a → First x xs b → a ≡ b
   once x [] None None f g = refl
@@ -77,13 +80,13 @@ module _ {X : Type 0} where
 
 pub list_laws : (X : Type 0) → ListLaws X
 list_laws X = record {
-  all_there = all_parts;
-  unfilled_is = laid_none;
+  all_there = λ n places. take-append-drop n places;
+  unfilled_is = λ places. refl;
   refused = λ l x e. no_place l x l.rest e;
   granted = λ l x h. a_place l x l.rest h;
   appended_places = λ l x. same_places l.held l.rest x;
   written_places = written_same;
-  written_each = λ l xs t. sym (extended_emptied l xs (leb-true _ _ t)) ∙ each_is (emptied l) xs;
+  written_each = by_each;
   first_once = once;
   first_holds = holds;
   first_before = before;

@@ -1,6 +1,5 @@
 -- A list over lent places: what it holds, and what lies in its free places.
 use Rattle.std.specs.Prelude.{◌≡◌, ℕ, zero, suc, ◌+◌, Bool, true, false, cond, List, [], ◌∷◌, ◌++◌, length, take, drop, Some, None, Option, ◌≢◌, nat_le, nat_lt}
-use Rattle.tables.specs.declared.lent.LentList.{LentList}
 
 pub record Listed (X : Type 0) : Type 0 where
   pub held : List X
@@ -12,11 +11,8 @@ longer len places = cond (nat_lt len places) (Some (len + 1)) None
 
 module _ {X : Type 0} where
   -- the first places hold the list, in order
-  unfoldable pub laid : ℕ → List X → Listed X
+  abbrev pub laid : ℕ → List X → Listed X
   laid n places = record { held = take n places; rest = drop n places }
-
-  abbrev pub listed : LentList X → Listed X
-  listed l = laid l.len l.places.now
 
   -- no place is taken
   abbrev pub unfilled : List X → Listed X

@@ -1,0 +1,19 @@
+//! Why a list takes no more.
+ghost use Rattle.std.specs.Prelude.{Some, codes};
+
+use std::error::Error;
+use std::fmt;
+
+/// No place is left: nothing changed.
+#[derive(Debug, Clone, Copy, PartialEq, Eq)]
+pub struct Full;
+
+impl fmt::Display for Full {
+    ghost output = { λ _. Some (codes "no place is left") };
+
+    fn fmt<W: fmt::Write>(&self, f: &mut fmt::Formatter<W>) -> fmt::Result {
+        f.write_str("no place is left")
+    }
+}
+
+impl Error for Full {}
