@@ -1,6 +1,6 @@
 //! What a call costs, by the size of the tables.
-use ledger::{Counts, Ledger, Row, Tally};
-use marks::{MarkRow, Marks};
+use ledger::{Ledger, LentLedger, Row, Tally};
+use marks::MarkRow;
 use records::{Outcome, WriteAtState};
 use slots::{Slab, Slot};
 use std::io;
@@ -82,41 +82,25 @@ fn time_slab(rt: &HostRuntime, entries: u32, turns: u32) -> io::Result<()> {
     show(rt, "slab", entries, calls, took, seen)
 }
 
-fn time_ledger<L: Ledger>(
-    rt: &HostRuntime,
-    what: &str,
-    ledger: &mut L,
-    rows: u32,
-    turns: u32,
-) -> io::Result<()> {
-    let mut seen = turn_ledger(ledger, rows);
+fn time_ledger<T: Tally>(rt: &HostRuntime, what: &str, rows: u32, turns: u32) -> io::Result<()> {
+    let mut table = vec![in rt.alloc(); T::fresh(); rows as usize]?;
+    let mut ledger = LentLedger::new(&mut table);
+    let mut seen = turn_ledger(&mut ledger, rows);
     let start = Instant::now(rt)?;
     for _ in 0..turns {
-        seen = seen.wrapping_add(turn_ledger(ledger, rows));
+        seen = seen.wrapping_add(turn_ledger(&mut ledger, rows));
     }
     let took = start.elapsed(rt)?;
     let calls = calls_of(rows, turns, 4);
     show(rt, what, rows, calls, took, seen)
 }
 
-fn time_counts(rt: &HostRuntime, rows: u32, turns: u32) -> io::Result<()> {
-    let mut table = vec![in rt.alloc(); Row::fresh(); rows as usize]?;
-    let mut counts = Counts::new(&mut table);
-    time_ledger(rt, "counts", &mut counts, rows, turns)
-}
-
-fn time_marks(rt: &HostRuntime, rows: u32, turns: u32) -> io::Result<()> {
-    let mut table = vec![in rt.alloc(); MarkRow::fresh(); rows as usize]?;
-    let mut marks = Marks::new(&mut table);
-    time_ledger(rt, "marks", &mut marks, rows, turns)
-}
-
 pub(crate) fn measure(rt: &HostRuntime) -> io::Result<()> {
     for entries in [64u32, 4096, LARGEST] {
         let rounds = LARGEST / entries;
         time_slab(rt, entries, rounds * 256)?;
-        time_counts(rt, entries, rounds * 256)?;
-        time_marks(rt, entries, rounds * 8)?;
+        time_ledger::<Row>(rt, "counts", entries, rounds * 256)?;
+        time_ledger::<MarkRow>(rt, "marks", entries, rounds * 8)?;
     }
     Ok(())
 }

@@ -8,50 +8,17 @@ const LOST: Outcome = Outcome::Io { code: 5 };
 
 const FULL: Outcome = Outcome::Io { code: 28 };
 
-fn state_name(state: WriteAtState) -> &'static str {
-    match state {
-        WriteAtState::Writing => "writing",
-        WriteAtState::WritingSync => "writing-sync",
-        WriteAtState::WritingBeforeSync => "writing-before-sync",
-        WriteAtState::Syncing => "syncing",
-    }
-}
-
-// The outcomes that are told or answered here.
-fn outcome_name(outcome: Outcome) -> &'static str {
-    match outcome {
-        Outcome::Ok => "ok",
-        Outcome::WriteFailed => "write-failed",
-        Outcome::LedgerSpent => "ledger-spent",
-        Outcome::Io { .. } => "io",
-        _ => "another",
-    }
-}
-
-fn print_outcome(rt: &HostRuntime, outcome: Outcome) -> io::Result<()> {
-    match outcome.code() {
-        Some(code) => print!(rt; "io {code}"),
-        None => print!(rt; "{}", outcome_name(outcome)),
-    }
-}
-
 fn show_row<L: Ledger>(rt: &HostRuntime, ledger: &L, row: usize) -> io::Result<()> {
     print!(rt; "  row {row}: {} completed, ", ledger.begin_sync(row))?;
     match ledger.needs_sync(row) {
         Ok(true) => println!(rt; "a sync is needed"),
         Ok(false) => println!(rt; "no sync is needed"),
-        Err(taint) => {
-            print!(rt; "tainted ")?;
-            print_outcome(rt, taint)?;
-            println!(rt; "")
-        }
+        Err(taint) => println!(rt; "tainted {taint}"),
     }
 }
 
 fn show_answer<L: Ledger>(rt: &HostRuntime, ledger: &L, answer: Outcome) -> io::Result<()> {
-    print!(rt; ": ")?;
-    print_outcome(rt, answer)?;
-    println!(rt; "")?;
+    println!(rt; ": {answer}")?;
     show_row(rt, ledger, 0)
 }
 
@@ -61,8 +28,7 @@ fn tell<L: Ledger>(
     state: WriteAtState,
     res: Outcome,
 ) -> io::Result<()> {
-    print!(rt; "wrote {} ", state_name(state))?;
-    print_outcome(rt, res)?;
+    print!(rt; "wrote {state} {res}")?;
     let answer = ledger.wrote(0, state, res);
     show_answer(rt, ledger, answer)
 }
@@ -119,11 +85,7 @@ fn play<L: Ledger>(rt: &HostRuntime, ledger: &mut L) -> io::Result<()> {
 
 pub(crate) fn play_ledgers(rt: &HostRuntime) -> io::Result<()> {
     println!(rt; "== a ledger that counts")?;
-    let mut rows = [Row::fresh(); 2];
-    let mut counts = Counts::new(&mut rows);
-    play(rt, &mut counts)?;
+    play(rt, &mut Counts::new(&mut [Row::fresh(); 2]))?;
     println!(rt; "== a ledger that marks")?;
-    let mut mark_rows = [MarkRow::fresh(); 2];
-    let mut marks = Marks::new(&mut mark_rows);
-    play(rt, &mut marks)
+    play(rt, &mut Marks::new(&mut [MarkRow::fresh(); 2]))
 }

@@ -3,17 +3,6 @@ use records::Id;
 use slots::{Slab, Slot};
 use std::io;
 
-#[derive(Clone, Copy)]
-enum SlabCall {
-    Next,
-    Insert(u64),
-    Get(Id),
-    Set(Id, u64),
-    Remove(Id),
-    At(u32),
-    Counts,
-}
-
 const OLD_MEMORY: Slot<u64> = Slot {
     generation: 77,
     value: Some(1),
@@ -26,71 +15,78 @@ const fn id(index: u32, generation: u64) -> Id {
 
 fn show_id(rt: &HostRuntime, found: Option<Id>) -> io::Result<()> {
     match found {
-        Some(id) => println!(rt; "id {} {}", id.index, id.generation),
+        Some(id) => println!(rt; "id {id}"),
         None => println!(rt; "none"),
     }
 }
 
 fn show_value(rt: &HostRuntime, what: &str, id: Id, value: Option<u64>) -> io::Result<()> {
     match value {
-        Some(value) => println!(rt; "{what} {} {}: {value}", id.index, id.generation),
-        None => println!(rt; "{what} {} {}: none", id.index, id.generation),
+        Some(value) => println!(rt; "{what} {id}: {value}"),
+        None => println!(rt; "{what} {id}: none"),
     }
 }
 
-fn play(rt: &HostRuntime, slab: &mut Slab<u64>, call: SlabCall) -> io::Result<()> {
-    match call {
-        SlabCall::Next => {
-            print!(rt; "next: ")?;
-            show_id(rt, slab.next_id())
-        }
-        SlabCall::Insert(value) => {
-            print!(rt; "insert {value}: ")?;
-            show_id(rt, slab.insert(value))
-        }
-        SlabCall::Get(id) => show_value(rt, "get", id, slab.get(id)),
-        SlabCall::Set(id, value) => {
-            let live = slab.set(id, value);
-            println!(rt; "set {} {} to {value}: {live}", id.index, id.generation)
-        }
-        SlabCall::Remove(id) => show_value(rt, "remove", id, slab.remove(id)),
-        SlabCall::At(index) => {
-            print!(rt; "at {index}: ")?;
-            show_id(rt, slab.id_at(index))
-        }
-        SlabCall::Counts => println!(rt; "{} live, {} slots used", slab.len(), slab.slots()),
+fn next(rt: &HostRuntime, slab: &Slab<u64>) -> io::Result<()> {
+    print!(rt; "next: ")?;
+    show_id(rt, slab.next_id())
+}
+
+fn insert(rt: &HostRuntime, slab: &mut Slab<u64>, value: u64) -> io::Result<()> {
+    print!(rt; "insert {value}: ")?;
+    show_id(rt, slab.insert(value))
+}
+
+fn get(rt: &HostRuntime, slab: &Slab<u64>, id: Id) -> io::Result<()> {
+    show_value(rt, "get", id, slab.get(id))
+}
+
+fn set(rt: &HostRuntime, slab: &mut Slab<u64>, id: Id, value: u64) -> io::Result<()> {
+    let live = slab.set(id, value);
+    println!(rt; "set {id} to {value}: {live}")
+}
+
+fn remove(rt: &HostRuntime, slab: &mut Slab<u64>, id: Id) -> io::Result<()> {
+    show_value(rt, "remove", id, slab.remove(id))
+}
+
+fn at(rt: &HostRuntime, slab: &Slab<u64>, index: u32) -> io::Result<()> {
+    print!(rt; "at {index}: ")?;
+    show_id(rt, slab.id_at(index))
+}
+
+// Fills the slab, frees two slots, and asks for what is gone.
+fn play_first(rt: &HostRuntime, slab: &mut Slab<u64>) -> io::Result<()> {
+    get(rt, slab, id(0, 77))?;
+    next(rt, slab)?;
+    for value in [10, 20, 30, 40] {
+        insert(rt, slab, value)?;
     }
+    remove(rt, slab, id(1, 0))?;
+    remove(rt, slab, id(0, 0))?;
+    get(rt, slab, id(1, 0))?;
+    remove(rt, slab, id(1, 0))
+}
+
+// The freed slots come back, in their next generation.
+fn play_again(rt: &HostRuntime, slab: &mut Slab<u64>) -> io::Result<()> {
+    insert(rt, slab, 50)?;
+    next(rt, slab)?;
+    insert(rt, slab, 60)?;
+    get(rt, slab, id(0, 0))?;
+    get(rt, slab, id(0, 1))?;
+    set(rt, slab, id(2, 0), 35)?;
+    set(rt, slab, id(2, 1), 36)?;
+    get(rt, slab, id(2, 0))?;
+    at(rt, slab, 1)?;
+    at(rt, slab, 3)?;
+    println!(rt; "{} live, {} slots used", slab.len(), slab.slots())
 }
 
 pub(crate) fn play_slab(rt: &HostRuntime) -> io::Result<()> {
     println!(rt; "== a slab of three slots")?;
     let mut slots = [OLD_MEMORY; 3];
     let mut slab = Slab::new(&mut slots);
-    let calls = [
-        SlabCall::Get(id(0, 77)),
-        SlabCall::Next,
-        SlabCall::Insert(10),
-        SlabCall::Insert(20),
-        SlabCall::Insert(30),
-        SlabCall::Insert(40),
-        SlabCall::Remove(id(1, 0)),
-        SlabCall::Remove(id(0, 0)),
-        SlabCall::Get(id(1, 0)),
-        SlabCall::Remove(id(1, 0)),
-        SlabCall::Insert(50),
-        SlabCall::Next,
-        SlabCall::Insert(60),
-        SlabCall::Get(id(0, 0)),
-        SlabCall::Get(id(0, 1)),
-        SlabCall::Set(id(2, 0), 35),
-        SlabCall::Set(id(2, 1), 36),
-        SlabCall::Get(id(2, 0)),
-        SlabCall::At(1),
-        SlabCall::At(3),
-        SlabCall::Counts,
-    ];
-    for call in calls {
-        play(rt, &mut slab, call)?;
-    }
-    Ok(())
+    play_first(rt, &mut slab)?;
+    play_again(rt, &mut slab)
 }
