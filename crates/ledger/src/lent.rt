@@ -31,6 +31,7 @@ impl<'a, T: Tally> LentLedger<'a, T> {
     pub fn new(rows: &'a mut [T]) -> Self
         ensures { result ≡ replicate (length rows.old) fresh_row }
     {
+        // `fill` asks for a clone that cannot fail, which the bound does not say.
         for row in rows.iter_mut() {
             *row = T::fresh();
         }
@@ -47,7 +48,7 @@ impl<'a, T: Tally> LentLedger<'a, T> {
         }
     }
 
-    // Past the end nothing is kept.
+    // Past the end nothing is kept. By its index, since a proof knows nothing of what is written through `get_mut`.
     fn keep(&mut self, row: usize, tally: T)
         ensures { self.new ≡ slice_set self.old row (T.kept_row tally) }
     {

@@ -35,7 +35,7 @@ pub trait Tally: Copy {
     fn count(&mut self)
         ensures { kept_row self.new ≡ counted MOST (kept_row self.old) };
 
-    /// A sync covered the writes that had completed when `seen` were, as far as there are so many.
+    /// Covers the first `seen` completed writes, or as many as there are. What was covered stays so.
     fn cover(&mut self, seen: u64)
         ensures { kept_row self.new ≡ ended_by None seen (kept_row self.old) };
 
@@ -113,6 +113,7 @@ pub trait Tally: Copy {
 }
 
 /// Whether a write leaves bytes that a later sync has to cover.
+// State and result stay apart: each caller has them so, and a struct would be made only to be taken apart here.
 pub fn counts_write(state: WriteAtState, res: Outcome) -> bool
     ensures { result ≡ counts_write state res }
 {

@@ -61,9 +61,7 @@ none_left (Open ∷ ms) h = let k = none_left ms (omega arith) in omega arith
 none_left (Covered ∷ ms) h = let k = none_left ms (omega arith) in omega arith
 
 is_unused_only : (m : Mark) → is_unused m ≡ true → m ≡ Unused
-is_unused_only Unused e = refl
-is_unused_only Open e = cc
-is_unused_only Covered e = cc
+is_unused_only m e = grind arith
 
 -- a mark is opened where one is unused, and else the row is spent
 

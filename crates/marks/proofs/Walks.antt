@@ -27,7 +27,7 @@ unfolding cover_first
 cover_more ms i n m h e =
     let k : i < i + 1 = omega arith in
     let f : cover_first n (drop i ms) ≡ covered_mark n m ∷ cover_first (left_after n m) (drop (i + 1) ms) =
-        subst (λ (x : Mark). cover_first n (drop i ms) ≡ covered_mark n x ∷ cover_first (left_after n x) (drop (i + 1) ms)) (sym e) (at_drop_more (cover_first n) ms i m h) in
+    subst (λ (x : Mark). cover_first n (drop i ms) ≡ covered_mark n x ∷ cover_first (left_after n x) (drop (i + 1) ms)) (sym e) (at_drop_more (cover_first n) ms i m h) in
     rw (take_more_set ms i (covered_mark n m) h, drop-set-lt (i + 1) ms i (covered_mark n m) k, append_assoc, f) refl
 
 pub cover_all : (ms : List Mark) (i n : ℕ) → length ms ≤ i → take i ms ++ cover_first n (drop i ms) ≡ ms

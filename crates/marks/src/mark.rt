@@ -25,7 +25,7 @@ pub struct MarkRow {
 /// The ledger that keeps a mark for each write.
 pub type Marks<'a> = LentLedger<'a, MarkRow>;
 
-// The completed and the covered writes.
+// The completed and the covered writes, in one walk: two filtered counts took twice the time.
 fn tally(marks: &[Mark]) -> (u64, u64)
     ensures completed { result.0 ≡ completed_marks marks.now }
     ensures covered { result.1 ≡ covered_marks marks.now }
