@@ -74,7 +74,8 @@ impl<'a, X: Copy> LentList<'a, X> {
         ensures answer { is_ok result ≡ appends self.old }
         ensures list { self.new ≡ appended self.old x }
     {
-        self.len = append(self.places, self.len, x).ok_or(Full)?;
+        let longer = append(self.places, self.len, x).ok_or(Full)?;
+        self.len = longer;
         Ok(())
     }
 
