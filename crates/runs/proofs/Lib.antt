@@ -7,5 +7,4 @@ pub mod Reacting
 pub mod Staging
 pub mod Admitting
 pub mod Keeping
-pub mod Computed
 pub mod Recording

@@ -1,6 +1,7 @@
 -- The laws' words for rows and the calls' words for them.
-use Rattle.std.proofs.Common.{◌≡◌, ℕ, zero, suc, ◌+◌, ◌≤◌, true, ◌&&◌, leb, List, [], ◌∷◌, take, drop, refl, ap, arith}
+use Rattle.std.proofs.Common.{◌≡◌, ℕ, zero, suc, ◌+◌, ◌-◌, ◌≤◌, true, ◌&&◌, leb, List, [], ◌∷◌, take, drop, refl, ap, arith}
 use Rattle.std.proofs.lemmas.Bool.{leb-true, and_parts}
+use Rattle.std.proofs.lemmas.List.{take-take, drop-take}
 use Rattle.records.specs.Limits.{row_limits}
 use Rattle.records.specs.Sums.{plus}
 use Rattle.records.specs.declared.buffer.ChunkRow.{ChunkRow}
@@ -9,25 +10,11 @@ use Rattle.rows.specs.Laws.{Sound}
 use Rattle.rows.specs.Vectors.{range, total, all_within, iovec_bytes}
 use Rattle.runs.specs.Notions.{sum, rows_of, sizes}
 
-pub plus_is : (a b : ℕ) → a + b ≤ 18446744073709551615 → plus a b ≡ a + b
-plus_is a b h = omega arith
-
-take_less : {X : Type 0} (k c : ℕ) (xs : List X) → c ≤ k → take c (take k xs) ≡ take c xs
-take_less k zero xs h = refl
-take_less zero (suc c) xs h = absurd (omega arith)
-take_less (suc k) (suc c) [] h = refl
-take_less (suc k) (suc c) (x ∷ xs) h = ap (λ l. x ∷ l) (take_less k c xs (omega arith))
-
--- a part of a list's front
-part_of_front : {X : Type 0} (k f c : ℕ) (xs : List X) → f + c ≤ k → take c (drop f (take k xs)) ≡ take c (drop f xs)
-part_of_front k zero c xs h = take_less k c xs (omega arith)
-part_of_front zero (suc f) c xs h = absurd (omega arith)
-part_of_front (suc k) (suc f) c [] h = refl
-part_of_front (suc k) (suc f) c (x ∷ xs) h = part_of_front k f c xs (omega arith)
-
 pub range_is : (table : List ChunkRow) (first count : ℕ) → first + count ≤ 65536 → range table first count ≡ rows_of table first count
 unfolding range
-range_is table first count h = part_of_front 65536 first count table h
+range_is table first count h =
+    let e : first + (65536 - first) ≡ 65536 = omega arith in
+    rw (← e, drop-take) (take-take count (65536 - first) (drop first table) (omega arith))
 
 pub sum_is : (xs : List ChunkRow) → total xs ≡ sum xs
 unfolding total

@@ -14,7 +14,6 @@ use Rattle.rows.proofs.CursorLaws.{cursor_laws}
 use Rattle.request.specs.Progress.{write_submitted}
 use Rattle.cqe.specs.Writes.{write_moved}
 use Rattle.runs.specs.Notions.{sum, rows_of, source_bytes}
-use Rattle.runs.proofs.Links.{plus_is}
 
 pub record RowsPlaced (table : List ChunkRow) (first count n : ℕ) (c : Cursor) : Type 0 where
   pub sound : Sound (range table first count)
@@ -66,13 +65,13 @@ pub record Moved (table : List ChunkRow) (s : Source) (n m : ℕ) (c : Cursor) :
 pub at_moves : (table : List ChunkRow) (s : Source) (n m : ℕ) (c : Cursor) → Placed table s n c → n ≤ source_bytes table s →
     m ≤ write_submitted table (write_at table s n c) → Moved table s n m c
 at_moves table (source.Single place k) n m c p h f =
-    let e : plus n m ≡ n + m = plus_is n m (omega arith) in
+    let e : plus n m ≡ n + m = omega arith in
     record { cursor = c; is = rw e; placed = p; inside = omega arith }
 at_moves table (source.Rows first count) n m c p h f =
     let a = cursor_laws.within table first count c p.sound p.stands in
     let b = p.before_is in let d = p.total_is in let z = p.small in
     let i : n + m ≤ total (range table first count) = omega (arith, a, b, d, f) in
-    let e : plus n m ≡ n + m = plus_is n m (omega (arith, i, z)) in
+    let e : plus n m ≡ n + m = omega (arith, i, z) in
     let v = cursor_laws.moves table first count c m p.sound p.stands (omega (arith, i, b)) in
     record {
       cursor = advanced table first count c m;

@@ -22,7 +22,6 @@ use Rattle.cqe.specs.Cqe.{fits}
 use Rattle.cqe.specs.Reads.{recv_step, buffered_step, direct_step, given_up, without_hint}
 use Rattle.cqe.specs.Steps.{unhinted, goes_on, ends}
 use Rattle.runs.specs.Notions.{Heard, Heard.retry, Heard.failed, Heard.moved, Tried, Tried.directly, Tried.plainly, lead, reports, besides_retry, counted_directly}
-use Rattle.runs.proofs.Links.{plus_is}
 use Rattle.runs.proofs.Going.{hint, Reading, Directly, After, not_ok, ends_badly}
 
 -- a classified result in the laws' words
@@ -69,7 +68,7 @@ module _ (table : List ChunkRow) (d : ℕ) (b : Buffer) (m : ℕ) (sy : Bool) wh
       rw e (ends_badly table (wanted.Recv d b m exact) outcome.RecvFailed (request.Recv (record { descriptor = d; buffer = b; length = m; received = n; exact = exact })) (plainly n) tk sy refl (omega arith) (record { n = n; request_is = refl; tried_is = refl; left = l; small = s; inside = i; few = w }))
   recv_reacts exact n tk (Count k) p f l s i w =
       let g : k ≤ min (m - n) 4294967295 = leb-true _ _ f in
-      let e : plus n k ≡ n + k = plus_is n k (omega arith) in
+      let e : plus n k ≡ n + k = omega arith in
       rw e (recv_count exact n tk k p g l s i w)
 
 -- buffered reads, from the start or after direct reading was given up
@@ -112,7 +111,7 @@ module _ (f : FileId) (offset place capacity m past : ℕ) where
       let z : n + 0 ≡ n = omega arith in rw z (read_fails outcome.BlobInsufficientLength n tk cache refl l w)
   read_reacts table end n tk cache (Count k) p g l s e i w =
       let a : k ≤ min (m - n) 4294967295 = leb-true _ _ g in
-      let z : plus n k ≡ n + k = plus_is n k (omega arith) in
+      let z : plus n k ≡ n + k = omega arith in
       rw z (cond_both (ltb (n + k) m) None (Some outcome.Ok) (λ v. AfterReading v (request.ReadAt (reading (n + k) cache)) (plainly (n + k)) (1 + tk))
       (λ b. record { n = n + k; cache = cache; request_is = refl; tried_is = refl; left = ltb-true _ _ b; small = s; ends = e; inside = i; few = omega arith })
       (λ b. let c = ltb-false _ _ b in (omega arith, (omega arith, (λ o. c), (λ o. refl)))))
@@ -208,6 +207,6 @@ module _ (table : List ChunkRow) (f : FileId) (d offset m place capacity : ℕ) 
       let l = a.left in let s = a.small in
       let h : k ≤ min ((offset % 4096 + m + 4095) / 4096 * 4096 - n) 2147479552 = leb-true _ _ g in
       let x : plus (offset % 4096) m ≡ offset % 4096 + m = omega (arith, s) in
-      let y : plus n k ≡ n + k = plus_is n k (omega (arith, h, l, s)) in
+      let y : plus n k ≡ n + k = omega (arith, h, l, s) in
       let u : ltb 0 k ≡ true = lt-ltb 0 k p in
       rw (x, y, u) (direct_counts (leb (offset % 4096 + m) (n + k)) (eqb (k % 4096) 0) n tk k _ p h refl refl a)

@@ -25,8 +25,8 @@ begin_as : (table : List ChunkRow) (w : Wanted) (r : Result Request Denial) → 
 begin_as table w (Ok q) e = begins (Queued q) q e refl
 begin_as table w (Err d) e = tt
 
-pub begin_recorded : (table : List ChunkRow) (w : Wanted) (r : Result Transfer Denial) → r ≡ begin_answer table w → BeginRecorded table w r
-begin_recorded table w r a = rw a (begin_as table w (admitted table w) refl)
+pub begin_recorded : (table : List ChunkRow) (w : Wanted) → BeginRecorded table w (begin_answer table w)
+begin_recorded table w = begin_as table w (admitted table w) refl
 
 submit_as : (table : List ChunkRow) (w : Wanted) (q : Request) (g : Setting) (list : List Iovec) (r : Result Staged Denial) → built table q g list ≡ r →
     SubmitRecorded table w (Queued q) (flown q r) (submission_of r) (built_list table q list)
@@ -34,15 +34,11 @@ submit_as table w q g list (Ok s) e =
     λ h run. let n = submits (InFlight s.request) q g list (built_list table q list) s h run e refl refl in (n, λ z. every_run table w _ _ n z)
 submit_as table w q g list (Err d) e = refl
 
-submit_in : (table : List ChunkRow) (w : Wanted) (p : Standing) (g : Setting) (list : List Iovec) →
+pub submit_recorded : (table : List ChunkRow) (w : Wanted) (p : Standing) (g : Setting) (list : List Iovec) →
     SubmitRecorded table w p (submit_after table p g list) (submit_answer table p g list) (submit_list table p list)
-submit_in table w (Queued q) g list = submit_as table w q g list (built table q g list) refl
-submit_in table w (InFlight q) g list = refl
-submit_in table w (Ended q o) g list = refl
-
-pub submit_recorded : (table : List ChunkRow) (w : Wanted) (p after : Standing) (g : Setting) (list l : List Iovec) (a : Result Submission Denial) →
-    a ≡ submit_answer table p g list → after ≡ submit_after table p g list → l ≡ submit_list table p list → SubmitRecorded table w p after a l
-submit_recorded table w p after g list l a x y z = rw (x, y, z) (submit_in table w p g list)
+submit_recorded table w (Queued q) g list = submit_as table w q g list (built table q g list) refl
+submit_recorded table w (InFlight q) g list = refl
+submit_recorded table w (Ended q o) g list = refl
 
 complete_as : (table : List ChunkRow) (w : Wanted) (q : Request) (state : WaiterState) (n : ℤ) (r : Result Step Denial) → on_cqe table q state n ≡ r →
     CompleteRecorded table w (InFlight q) (landed q r) r state n
@@ -50,12 +46,8 @@ complete_as table w q state n (Ok s) e =
     λ h run. let m = completes (stands s.outcome s.request) q state n s h run e refl in (m, λ z. every_run table w _ _ m z)
 complete_as table w q state n (Err d) e = refl
 
-complete_in : (table : List ChunkRow) (w : Wanted) (p : Standing) (state : WaiterState) (n : ℤ) →
+pub complete_recorded : (table : List ChunkRow) (w : Wanted) (p : Standing) (state : WaiterState) (n : ℤ) →
     CompleteRecorded table w p (complete_after table p state n) (complete_answer table p state n) state n
-complete_in table w (Queued q) state n = refl
-complete_in table w (InFlight q) state n = complete_as table w q state n (on_cqe table q state n) refl
-complete_in table w (Ended q o) state n = refl
-
-pub complete_recorded : (table : List ChunkRow) (w : Wanted) (p after : Standing) (state : WaiterState) (n : ℤ) (a : Result Step Denial) →
-    a ≡ complete_answer table p state n → after ≡ complete_after table p state n → CompleteRecorded table w p after a state n
-complete_recorded table w p after state n a x y = rw (x, y) (complete_in table w p state n)
+complete_recorded table w (Queued q) state n = refl
+complete_recorded table w (InFlight q) state n = complete_as table w q state n (on_cqe table q state n) refl
+complete_recorded table w (Ended q o) state n = refl

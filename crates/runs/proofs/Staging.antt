@@ -30,7 +30,7 @@ use Rattle.sqe.specs.declared.Staged.{Staged}
 use Rattle.sqe.specs.Building.{built, built_list, kept_hint, send_built, bytes_built, rows_part}
 use Rattle.runs.specs.Notions.{Tried, Tried.plainly, is_fsync, asks_for, sizes, rows_of, source_bytes, bytes_wanted}
 use Rattle.runs.specs.Laws.{Begins}
-use Rattle.runs.proofs.Links.{plus_is, sizes_is}
+use Rattle.runs.proofs.Links.{sizes_is}
 use Rattle.runs.proofs.Placing.{Placed, RowsPlaced, write_at}
 use Rattle.runs.proofs.Going.{hint, Going}
 use Rattle.runs.proofs.ReactingWrites.{WriteFacts}
@@ -112,7 +112,7 @@ send_stages table d (source.Single place m) n tk c sy g list p l w = (
   record { n = n; c = c; request_is = refl; tried_is = refl; placed = p; left = l; few = w },
   refl,
   (λ e. omega arith),
-  (plus_is place n (omega arith), l),
+  (omega arith, l),
 )
 send_stages table d (source.Rows first count) n tk c sy g list p l w =
     send_rows (ltb (length list) (length (carried table first count c.row))) table d first count n tk c sy g list p l w
@@ -143,7 +143,7 @@ module _ (table : List ChunkRow) (f : FileId) (offset : ℕ) (made : Cache) wher
         write_on (source.Rows first count) m n tk c cache g.hints a,
         sym i,
         (λ z. j ∙ exactly table first count n c list a.placed),
-        (plus_is offset n (omega (arith, l, e)), pieces table first count n c list a.placed, l),
+        (omega (arith, l, e), pieces table first count n c list a.placed, l),
       )
 
   write_single : (place k : ℕ) (m : WriteMode) (n tk : ℕ) (c : Cursor) (cache : Cache) (g : Setting) (list : List Iovec) →
@@ -158,7 +158,7 @@ module _ (table : List ChunkRow) (f : FileId) (offset : ℕ) (made : Cache) wher
         write_on (source.Single place k) m n tk c cache g.hints a,
         sym i,
         (λ z. omega (arith, j)),
-        (plus_is offset n (omega (arith, l, e)), plus_is place n (omega (arith, l, p)), l),
+        (omega (arith, l, e), omega (arith, l, p), l),
       )
 
   write_stages : (s : Source) (m : WriteMode) (n tk : ℕ) (c : Cursor) (cache : Cache) (g : Setting) (list : List Iovec) → WriteFacts table f offset s made n tk c cache →
@@ -184,7 +184,7 @@ stages table (wanted.Recv d b m exact) q t tk sy g list z a =
       record { n = a.n; request_is = refl; tried_is = refl; left = l; small = s; inside = i; few = a.few },
       refl,
       (λ e. omega arith),
-      (plus_is b.place a.n (omega (arith, l, i)), l),
+      (omega (arith, l, i), l),
     )
 stages table (wanted.ReadAt f offset b cache) q t tk sy g list z a =
     let l = a.left in let i = a.inside in let e = a.ends in let w = a.few in let k = kept_less a.cache g.hints in
@@ -192,7 +192,7 @@ stages table (wanted.ReadAt f offset b cache) q t tk sy g list z a =
       record { n = a.n; cache = kept_hint a.cache g.hints; request_is = refl; tried_is = refl; left = l; small = a.small; ends = e; inside = i; few = omega (arith, w, k) },
       refl,
       (λ x. omega arith),
-      (plus_is offset a.n (omega (arith, l, e)), plus_is b.place a.n (omega (arith, l, i)), l),
+      (omega (arith, l, e), omega (arith, l, i), l),
     )
 stages table (wanted.DirectReadAt f d offset m place capacity) q t tk sy g list z (inl a) =
     let l = a.left in let i = a.inside in let e = a.ends in let h = a.fits in
@@ -200,7 +200,7 @@ stages table (wanted.DirectReadAt f d offset m place capacity) q t tk sy g list 
       inl (record { n = a.n; request_is = refl; tried_is = refl; left = l; some = a.some; small = a.small; ends = e; fits = h; inside = i; few = a.few }),
       refl,
       (λ x. omega arith),
-      (plus_is (offset - offset % 4096) a.n (omega (arith, l, e)), plus_is place a.n (omega (arith, l, h, i)), refl, l),
+      (omega (arith, l, e), omega (arith, l, h, i), refl, l),
     )
 stages table (wanted.DirectReadAt f d offset m place capacity) q t tk sy g list z (inr a) =
     let l = a.left in let i = a.inside in let e = a.ends in let w = a.few in let k = kept_less a.cache g.hints in
@@ -208,7 +208,7 @@ stages table (wanted.DirectReadAt f d offset m place capacity) q t tk sy g list 
       inr (record { n = a.n; cache = kept_hint a.cache g.hints; request_is = refl; tried_is = refl; left = l; small = a.small; ends = e; inside = i; few = omega (arith, w, k) }),
       refl,
       (λ x. omega arith),
-      (plus_is offset a.n (omega (arith, l, e)), plus_is (place + offset % 4096) a.n (omega (arith, l, i)), l),
+      (omega (arith, l, e), omega (arith, l, i), l),
     )
 stages table (wanted.WriteAt f offset s m cache) q t tk sy g list z (inl a) =
     rw (a.0.request_is, a.0.tried_is, a.1) (write_stages table f offset cache s m a.0.n tk a.0.c a.0.cache g list

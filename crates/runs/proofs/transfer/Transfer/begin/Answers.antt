@@ -1,8 +1,5 @@
 use Rattle.runs.proofs.Recording.{begin_recorded}
 use Rattle.runs.proofs.transfer.Transfer.begin.Goals as goal
 
-pub returns : goal.returns
-returns c = record {
-  answer = c.admit.ensures.answer;
-  recorded = begin_recorded _ c.args.wanted _ c.admit.ensures.answer;
-}
+pub returns-clause-recorded : goal.returns-clause-recorded
+returns-clause-recorded c = rw c.admit.ensures.answer (begin_recorded c.args.table.now c.args.wanted)

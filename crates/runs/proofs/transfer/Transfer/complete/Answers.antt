@@ -1,15 +1,10 @@
-use Rattle.std.proofs.Common.{◌≡◌, ap, rules}
-use Rattle.runs.specs.declared.transfer.Transfer.{Transfer}
+use Rattle.std.proofs.Common.{◌≡◌, rules}
 use Rattle.runs.specs.Calls.{complete_answer, complete_after, left_at}
 use Rattle.runs.proofs.Recording.{complete_recorded}
 use Rattle.runs.proofs.transfer.Transfer.complete.Goals as goal
 
-pub returns : goal.returns
-returns c =
+pub returns-clause-recorded : goal.returns-clause-recorded
+returns-clause-recorded c =
     let a : c.hear.result ≡ complete_answer c.args.table.now c.args.self.now.standing c.args.state c.args.res = search rules in
     let b : c.hear.new.self ≡ left_at c.args.self.now (complete_after c.args.table.now c.args.self.now.standing c.args.state c.args.res) = search rules in
-    record {
-      answer = a;
-      after = b;
-      recorded = complete_recorded c.args.table.now c.args.self.now.wanted c.args.self.now.standing _ c.args.state c.args.res _ a (ap (λ (t : Transfer). t.standing) b);
-    }
+    rw (a, b) (complete_recorded c.args.table.now c.args.self.now.wanted c.args.self.now.standing c.args.state c.args.res)
