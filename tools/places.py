@@ -122,10 +122,17 @@ def two():
         for number in re.findall(r"\b\d{6,}\b", row):
             by.setdefault(number, set()).add(row.split(":")[0])
     show("2d large numbers in two files or more", [f"{k}: {', '.join(sorted(v))}" for k, v in by.items() if len(v) > 1])
+    by = {}
+    for n, i, body in blocks(r"^(pub(\(crate\))? )?struct "):
+        text = " ".join(b for b in body[1:] if not b.strip().startswith("//")) if "{" in body[0] else body[0].split("(")[-1]
+        types = sorted(re.findall(r": ([\w<>&\[\]' ]+),", text)) if "{" in body[0] else [text]
+        name = re.search(r"struct (\w+)", body[0]).group(1)
+        by.setdefault(tuple(types), []).append(f"{n}:{i} {name}")
+    show("2e structs with fields of the same types", [" ~ ".join(v) for k, v in by.items() if k and len(v) > 1])
 
 
 def three():
-    show("3 loops over numbers", lines(r"\bfor \w+ in .*\.\.|\bwhile |\bloop \{"))
+    show("3a loops over numbers", lines(r"\bfor \w+ in .*\.\.|\bwhile |\bloop \{"))
     show("3b counted by hand", lines(r"saturating_add\(1\);$|\+= 1;"))
 
 

@@ -1,2 +1,3 @@
 pub mod Changing
 pub mod Recording
+pub mod Filling

@@ -7,6 +7,7 @@ use crate::row::Row;
 use crate::tally::Tally;
 use records::{Outcome, WriteAtState};
 use std::marker::Model;
+use tables::{fill, put};
 
 /// A ledger over the caller's rows.
 #[derive(Drop)]
@@ -31,10 +32,7 @@ impl<'a, T: Tally> LentLedger<'a, T> {
     pub fn new(rows: &'a mut [T]) -> Self
         ensures { result ≡ replicate (length rows.old) fresh_row }
     {
-        // `fill` asks for a clone that cannot fail, which the bound does not say.
-        for row in rows.iter_mut() {
-            *row = T::fresh();
-        }
+        fill(rows, T::fresh());
         LentLedger { rows }
     }
 
@@ -48,13 +46,11 @@ impl<'a, T: Tally> LentLedger<'a, T> {
         }
     }
 
-    // Past the end nothing is kept. By its index, since a proof knows nothing of what is written through `get_mut`.
+    // Past the end nothing is kept.
     fn keep(&mut self, row: usize, tally: T)
         ensures { self.new ≡ slice_set self.old row (T.kept_row tally) }
     {
-        if row < self.rows.len() {
-            self.rows[row] = tally;
-        }
+        put(self.rows, row, tally);
     }
 }
 

@@ -4,6 +4,7 @@ ghost use Rattle.slots.specs.Slots.{capacity, found, next_id, advanced, inserted
 
 use crate::slab::{Slab, Slot};
 use records::Id;
+use tables::put;
 
 /// The slots that a slab uses of its caller's table.
 const SLAB_SLOTS: usize = 65536;
@@ -83,14 +84,11 @@ impl<'a, T: Copy> Slab<'a, T> {
         }
     }
 
-    // Past the end nothing is written. (`get_mut` says nothing of what the slice ends as.)
-    fn put(&mut self, index: u32, slot: Slot<T>)
+    // Past the end nothing is written.
+    fn store(&mut self, index: u32, slot: Slot<T>)
         ensures { self.new ≡ with_slot self.old index slot }
     {
-        let index = index as usize;
-        if index < self.slots.len() {
-            self.slots[index] = slot;
-        }
+        put(self.slots, index as usize, slot);
     }
 
     /// Stores an entry under the id that comes next, or refuses where no slot is left.
@@ -105,7 +103,7 @@ impl<'a, T: Copy> Slab<'a, T> {
             value: Some(value),
             next: None,
         };
-        self.put(id.index, filled);
+        self.store(id.index, filled);
         self.len = self.len.saturating_add(1);
         Some(id)
     }
@@ -124,7 +122,7 @@ impl<'a, T: Copy> Slab<'a, T> {
             value: Some(value),
             next: None,
         };
-        self.put(id.index, replaced);
+        self.store(id.index, replaced);
         true
     }
 
@@ -139,7 +137,7 @@ impl<'a, T: Copy> Slab<'a, T> {
                     value: None,
                     next: self.free,
                 };
-                self.put(id.index, vacant);
+                self.store(id.index, vacant);
                 self.free = Some(id.index);
             }
             None => {
@@ -148,7 +146,7 @@ impl<'a, T: Copy> Slab<'a, T> {
                     value: None,
                     next: None,
                 };
-                self.put(id.index, retired);
+                self.store(id.index, retired);
             }
         }
     }

@@ -1,8 +1,28 @@
-//! Elements behind the first ones of a lent slice, and where one lies.
-ghost use Rattle.std.specs.Prelude.{◌≡◌, length, slice_set};
+//! Elements of a lent slice: one written where there is such a place, all of them, one more behind the first ones, and where one lies.
+ghost use Rattle.std.specs.Prelude.{◌≡◌, length, replicate, slice_set};
 ghost use Rattle.tables.specs.Listed.{longer, First};
 
 use records::Same;
+
+/// Writes the element at a place; past the end nothing is written.
+// By its index: a proof knows nothing of what is written through `get_mut`.
+pub fn put<X: Copy>(xs: &mut [X], i: usize, x: X)
+    ensures { xs.new ≡ slice_set xs.old i x }
+{
+    if i < xs.len() {
+        xs[i] = x;
+    }
+}
+
+/// One value for every element, whatever was there.
+// The library's `fill` asks for a clone that cannot fail, of which `Copy` says nothing.
+pub fn fill<X: Copy>(xs: &mut [X], x: X)
+    ensures { xs.new ≡ replicate (length xs.old) x }
+{
+    for y in xs.iter_mut() {
+        *y = x;
+    }
+}
 
 // The length is a parameter beside the slice, and both stay functions over slices of any element: the memory is lent (docs/DECISIONS.md).
 
