@@ -10,7 +10,7 @@ use Rattle.marks.specs.declared.mark.Mark.{Mark}
 use Rattle.marks.specs.declared.mark.Mark.TheVariants.{Unused, Open, Covered}
 use Rattle.marks.specs.declared.mark.MarkRow.{MarkRow}
 use Rattle.ledger.specs.Meaning.{tainted_row, counted, covers_now, ended_by}
-use Rattle.marks.specs.Marking.{completed_marks, covered_marks, is_unused, cover_first, seen_row}
+use Rattle.marks.specs.Marking.{completed_marks, covered_marks, is_unused, opened_at, cover_first, covered_row, seen_row}
 
 pub covered_le_completed : (ms : List Mark) → covered_marks ms ≤ completed_marks ms
 unfolding completed_marks covered_marks
@@ -66,7 +66,7 @@ is_unused_only m e = grind arith
 -- a mark is opened where one is unused, and else the row is spent
 
 pub seen_opened : (row : MarkRow) (i : ℕ) → length row.marks ≡ 256 → position is_unused row.marks ≡ Some i →
-    seen_row (record { marks = set row.marks i Open; taint = row.taint }) ≡ counted 256 (seen_row row)
+    seen_row (opened_at row (Some i)) ≡ counted 256 (seen_row row)
 seen_opened row i n p =
     let at = position-Some is_unused row.marks i Unused p in
     let e : slice_get row.marks i ≡ Some Unused = slice_get-get_or row.marks i Unused at.0 ∙ ap Some (is_unused_only (get_or row.marks i Unused) at.1) in
@@ -101,7 +101,7 @@ covered_covered n (Open ∷ ms) h =
 covered_covered n (Covered ∷ ms) h = let e = covered_covered n ms (omega arith) in omega arith
 
 pub seen_covered : (row : MarkRow) (seen : ℕ) →
-    seen_row (record { marks = cover_first (covers_now (completed_marks row.marks) (covered_marks row.marks) seen - covered_marks row.marks) row.marks; taint = row.taint })
+    seen_row (covered_row row (covers_now (completed_marks row.marks) (covered_marks row.marks) seen - covered_marks row.marks))
     ≡ ended_by None seen (seen_row row)
 seen_covered row seen =
     let c = completed_marks row.marks in

@@ -1,9 +1,11 @@
 -- What a row of marks says, and how its marks change.
-use Rattle.std.specs.Prelude.{ℕ, ◌+◌, ◌-◌, Bool, true, false, cond, List, [], ◌∷◌, replicate, None, nat_lt}
+use Rattle.std.specs.Prelude.{ℕ, ◌+◌, ◌-◌, Bool, true, false, cond, List, [], ◌∷◌, replicate, Some, None, Option, nat_lt, slice_set}
+use Rattle.records.specs.declared.outcome.Outcome.TheVariants.{LedgerSpent}
 use Rattle.ledger.specs.declared.row.Row.{Row}
 use Rattle.marks.specs.declared.mark.Mark.{Mark}
 use Rattle.marks.specs.declared.mark.Mark.TheVariants.{Unused, Open, Covered}
 use Rattle.marks.specs.declared.mark.MarkRow.{MarkRow}
+use Rattle.ledger.specs.Meaning.{first_error}
 
 -- a mark that is not unused is a completed write
 abbrev pub completed_by : Mark → ℕ
@@ -28,11 +30,15 @@ covered_marks (m ∷ ms) = covered_by m + covered_marks ms
 abbrev pub seen_row : MarkRow → Row
 seen_row row = record { completed = completed_marks row.marks; covered = covered_marks row.marks; taint = row.taint }
 
--- a counted write has the first unused mark
 abbrev pub is_unused : Mark → Bool
 is_unused Unused = true
 is_unused Open = false
 is_unused Covered = false
+
+-- a counted write has the first unused mark; with none left the row is tainted
+abbrev pub opened_at : MarkRow → (place : Option ℕ) → MarkRow
+opened_at row (Some place) = record { marks = slice_set row.marks place Open; taint = row.taint }
+opened_at row None = record { marks = row.marks; taint = first_error row.taint LedgerSpent }
 
 -- an open mark is covered while some are left to cover
 abbrev pub covered_mark : ℕ → Mark → Mark
@@ -49,6 +55,9 @@ left_after n Covered = n
 unfoldable pub cover_first : ℕ → List Mark → List Mark
 cover_first n [] = []
 cover_first n (m ∷ ms) = covered_mark n m ∷ cover_first (left_after n m) ms
+
+abbrev pub covered_row : MarkRow → ℕ → MarkRow
+covered_row row n = record { marks = cover_first n row.marks; taint = row.taint }
 
 -- no mark is in use
 abbrev pub fresh_marks : MarkRow

@@ -1,7 +1,7 @@
 //! A row of marks, one for each write that can be counted.
-ghost use Rattle.std.specs.Prelude.{◌≡◌, position};
-ghost use Rattle.ledger.specs.Meaning.{fresh_row};
-ghost use Rattle.marks.specs.Marking.{completed_marks, covered_marks, is_unused, covered_mark, left_after, cover_first, seen_row, fresh_marks};
+ghost use Rattle.std.specs.Prelude.{◌≡◌, ◌-◌, None, position};
+ghost use Rattle.ledger.specs.Meaning.{fresh_row, first_error, tainted_row, counted, covers_now, ended_by};
+ghost use Rattle.marks.specs.Marking.{completed_marks, covered_marks, is_unused, opened_at, covered_mark, left_after, cover_first, covered_row, seen_row, fresh_marks};
 
 use ledger::{LentLedger, Row, Tally};
 use records::Outcome;
@@ -100,12 +100,18 @@ impl Tally for MarkRow {
         self.taint
     }
 
-    fn note_error(&mut self, error: Outcome) {
+    fn note_error(&mut self, error: Outcome)
+        ensures marks { self.new ≡ record { marks = self.old.marks; taint = first_error self.old.taint error } }
+        ensures row { seen_row self.new ≡ tainted_row error (seen_row self.old) }
+    {
         self.taint = self.taint.or(Some(error));
     }
 
     #[tactic(auto, using(crate::proofs::Seen::seen_opened, crate::proofs::Seen::seen_spent))]
-    fn count(&mut self) {
+    fn count(&mut self)
+        ensures marks { self.new ≡ opened_at self.old (position is_unused self.old.marks) }
+        ensures row { seen_row self.new ≡ counted 256 (seen_row self.old) }
+    {
         match first_unused(&self.marks) {
             Some(place) => self.marks[place] = Mark::Open,
             None => self.note_error(Outcome::LedgerSpent),
@@ -113,7 +119,10 @@ impl Tally for MarkRow {
     }
 
     #[tactic(auto, using(crate::proofs::Seen::seen_covered))]
-    fn cover(&mut self, seen: u64) {
+    fn cover(&mut self, seen: u64)
+        ensures marks { self.new ≡ covered_row self.old (covers_now (completed_marks self.old.marks) (covered_marks self.old.marks) seen - covered_marks self.old.marks) }
+        ensures row { seen_row self.new ≡ ended_by None seen (seen_row self.old) }
+    {
         let old = self.row();
         let mut new = old;
         new.cover(seen);
