@@ -53,7 +53,10 @@ fn play_iovecs(rt: &HostRuntime) -> io::Result<()> {
     println!(rt; "== iovecs in two places")?;
     let mut places = [PIECE; 2];
     let mut list = LentList::new(&mut places);
-    println!(rt; "write three: {}", list.write(&[PIECE, REST, PIECE]).is_ok())?;
+    println!(rt;
+        "write three: {}",
+        list.write(&[PIECE, REST, PIECE]).is_ok()
+    )?;
     show_sizes(rt, "then", &list)?;
     println!(rt; "write two: {}", list.write(&[PIECE, REST]).is_ok())?;
     show_sizes(rt, "then", &list)?;

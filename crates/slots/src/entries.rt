@@ -102,6 +102,7 @@ impl<'a, T: Copy> Slab<'a, T> {
     }
 
     /// Stores another value under a live id; whether there is one.
+    // A bool: it says one thing, that the id was live, and an Option or Result would say no more.
     pub fn set(&mut self, id: Id, value: T) -> bool
         ensures answer { result ≡ is_some (found self.old id) }
         ensures after { self.new ≡ replaced self.old id value }

@@ -5,6 +5,7 @@ ghost use Rattle.tables.specs.Listed.{longer, First};
 use records::Same;
 
 /// One element more behind the first ones: how many there are then, or none where every place is taken.
+// The length stands beside lent places: no heap, the memory is the caller's.
 pub fn append<X: Copy>(xs: &mut [X], len: usize, x: X) -> Option<usize>
     ensures answer { result ≡ longer len (length xs.old) }
     ensures list { xs.new ≡ slice_set xs.old len x }
