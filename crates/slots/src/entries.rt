@@ -109,7 +109,7 @@ impl<'a, T: Copy> Slab<'a, T> {
     }
 
     /// Stores another value under a live id; whether there is one.
-    // A bool, as of a set's `insert`: no value comes back, and an id that is not live is no error of the slab's.
+    // A bool: it says one thing, that the id was live, and an Option or Result would say no more.
     pub fn set(&mut self, id: Id, value: T) -> bool
         ensures answer { result ≡ is_some (found self.old id) }
         ensures after { self.new ≡ replaced self.old id value }

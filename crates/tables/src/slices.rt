@@ -27,6 +27,7 @@ pub fn fill<X: Copy>(xs: &mut [X], x: X)
 // The length is a parameter beside the slice, and both stay functions over slices of any element: the memory is lent (docs/DECISIONS.md).
 
 /// One element more behind the first ones: how many there are then, or none where every place is taken.
+// The length stands beside lent places: no heap, the memory is the caller's.
 pub fn append<X: Copy>(xs: &mut [X], len: usize, x: X) -> Option<usize>
     ensures answer { result ≡ longer len (length xs.old) }
     ensures list { xs.new ≡ slice_set xs.old len x }
