@@ -81,7 +81,7 @@ begins_well table (source.Rows first count) =
 send_admits : (table : List ChunkRow) (d : ℕ) (s : Source) (b : Bool) (o : Option WriteBuffers) → BegunWell table s o → 0 < source_bytes table s →
     AdmittedWell table (wanted.Send d s) (send_begun d b o)
 send_admits table d s true (Some x) g z =
-    record { n = 0; c = start; request_is = ap (λ y. request.Send (record { descriptor = d; write = y })) g.0; tried_is = refl; placed = g.1; left = z; few = omega arith }
+    record { n = 0; c = start; request_is = ap (λ y. request.Send (record { descriptor = d; write = y })) g.0; tried_is = refl; facts = record { placed = g.1; left = z; few = omega arith } }
 send_admits table d s true None g z = tt
 send_admits table d s false o g z = tt
 
@@ -100,20 +100,15 @@ write_admits table f offset s m cache (Some b) g z =
     let l : write_length b ≡ source_bytes table s = ap write_length g.0 ∙ at_length table s 0 start g.1 in
     let i = leb-true _ _ p.1 in
     let k = small_hint cache in
-    inl (
-      record {
-        n = 0;
-        c = start;
-        cache = cache;
-        request_is = ap (λ y. request.WriteAt (record { file = f; offset = offset; write = y; state = started m; cache = cache })) g.0;
-        tried_is = refl;
-        placed = g.1;
-        left = z;
-        ends = omega (arith, l, i);
-        few = omega (arith, k);
-      },
-      refl,
-    ))
+    inl (record {
+      n = 0;
+      c = start;
+      cache = cache;
+      request_is = ap (λ y. request.WriteAt (record { file = f; offset = offset; write = y; state = started m; cache = cache })) g.0;
+      tried_is = refl;
+      not_yet = refl;
+      facts = record { placed = g.1; left = z; ends = omega arith; few = omega arith };
+    }))
     (λ e. tt)
 
 recv_admits : (table : List ChunkRow) (d : ℕ) (b : Buffer) (n : ℕ) (exact : Bool) → 0 < n → AdmittedWell table (wanted.Recv d b n exact) (recv_begun d b n exact)
@@ -127,7 +122,7 @@ recv_admits table d b n exact z =
     let v = and_parts (leb n b.capacity) (few_bytes n) u.1 in
     let x = and_parts (leb b.length b.capacity) (below_top b.place b.capacity) u.0 in
     let c = leb-true _ _ v.0 in let t = leb-true _ _ x.1 in
-    record { n = 0; request_is = refl; tried_is = refl; left = z; small = leb-true _ _ v.1; inside = omega (arith, c, t); few = omega arith })
+    record { n = 0; request_is = refl; tried_is = refl; facts = record { left = z; small = leb-true _ _ v.1; inside = omega arith; few = omega arith } })
     (λ e. tt)
 
 read_admits : (table : List ChunkRow) (f : FileId) (offset : ℕ) (b : Buffer) (cache : Cache) → 0 < b.length → AdmittedWell table (wanted.ReadAt f offset b cache) (read_begun f offset b cache)
@@ -140,7 +135,7 @@ read_admits table f offset b cache z =
     let u = and_parts (leb b.length b.capacity) (below_top b.place b.capacity) p.0 in
     let v = and_parts (few_bytes b.length) (leb (offset + b.length) 9223372036854775807) p.1 in
     let c = leb-true _ _ u.0 in let t = leb-true _ _ u.1 in let k = small_hint cache in
-    record { n = 0; cache = cache; request_is = refl; tried_is = refl; left = z; small = leb-true _ _ v.0; ends = leb-true _ _ v.1; inside = omega (arith, c, t); few = omega (arith, k) })
+    record { n = 0; cache = cache; request_is = refl; tried_is = refl; facts = record { left = z; small = leb-true _ _ v.0; ends = leb-true _ _ v.1; inside = omega arith; few = omega arith } })
     (λ e. tt)
 
 direct_admits : (table : List ChunkRow) (f : FileId) (d offset n place capacity : ℕ) → 0 < n → AdmittedWell table (wanted.DirectReadAt f d offset n place capacity) (direct_begun f d offset n place capacity)
@@ -159,13 +154,15 @@ direct_admits table f d offset n place capacity z =
       n = 0;
       request_is = refl;
       tried_is = refl;
-      left = omega arith;
-      some = z;
-      small = leb-true _ _ v.0;
-      ends = leb-true _ _ v.1;
-      fits = leb-true _ _ c.1;
-      inside = leb-true _ _ u.0;
-      few = omega arith;
+      facts = record {
+        left = omega arith;
+        some = z;
+        small = leb-true _ _ v.0;
+        ends = leb-true _ _ v.1;
+        fits = leb-true _ _ c.1;
+        inside = leb-true _ _ u.0;
+        few = omega arith;
+      };
     }))
     (λ g. tt))
     (λ e. tt)

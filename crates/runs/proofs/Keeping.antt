@@ -23,7 +23,7 @@ use Rattle.runs.specs.declared.transfer.Standing.{Standing}
 use Rattle.runs.specs.declared.transfer.Standing.TheVariants.{Queued, InFlight, Ended}
 use Rattle.runs.specs.Runs.{stands, Run, Run.begins, Run.submits, Run.completes}
 use Rattle.runs.proofs.Placing.{at_length}
-use Rattle.runs.proofs.Going.{Going, After, going_within, going_few}
+use Rattle.runs.proofs.Going.{Going, After, bounded}
 use Rattle.runs.proofs.ReactingReads.{class_heard}
 use Rattle.runs.proofs.Reacting.{Matches, matches, Completed, read_in}
 use Rattle.runs.proofs.Staging.{BuiltWell, stages}
@@ -49,13 +49,13 @@ not_empty : (n : ℕ) → 0 < n → eqb n 0 ≡ false
 not_empty n h = ne_eqb n 0 (λ e. omega arith)
 
 moving : (table : List ChunkRow) (w : Wanted) (q : Request) (t : Tried) (tk : ℕ) (sy : Bool) → 0 < bytes_wanted table w → Going table w q t tk sy → eqb (bytes_to_move q) 0 ≡ false
-moving table (wanted.Send d s) q t tk sy z g = rw (g.request_is, at_length table s g.n g.c g.placed) (not_empty _ z)
+moving table (wanted.Send d s) q t tk sy z g = rw (g.request_is, at_length table s g.n g.c g.facts.placed) (not_empty _ z)
 moving table (wanted.Recv d b m exact) q t tk sy z g = rw g.request_is (not_empty _ z)
 moving table (wanted.ReadAt f offset b cache) q t tk sy z g = rw g.request_is (not_empty _ z)
 moving table (wanted.DirectReadAt f d offset m place capacity) q t tk sy z (inl g) = rw g.request_is (not_empty _ z)
 moving table (wanted.DirectReadAt f d offset m place capacity) q t tk sy z (inr g) = rw g.request_is (not_empty _ z)
-moving table (wanted.WriteAt f offset s m cache) q t tk sy z (inl g) = rw (g.0.request_is, at_length table s g.0.n g.0.c g.0.placed) (not_empty _ z)
-moving table (wanted.WriteAt f offset s m cache) q t tk sy z (inr g) = rw (g.request_is, at_length table s _ g.c g.placed) (not_empty _ z)
+moving table (wanted.WriteAt f offset s m cache) q t tk sy z (inl g) = rw (g.request_is, at_length table s g.n g.c g.facts.placed) (not_empty _ z)
+moving table (wanted.WriteAt f offset s m cache) q t tk sy z (inr g) = rw (g.request_is, at_length table s _ g.c g.facts.placed) (not_empty _ z)
 moving table (wanted.Sync f) q t tk sy z g = absurd (omega arith)
 
 -- a granted completion fits its submission
@@ -186,12 +186,10 @@ pub every_run : EveryRunIsLawful
 every_run table w p h run z = conclude p (kept run z)
   where
     conclude : (p : Standing) → Kept table w p h → Lawful table w p h
-    conclude (Queued q) k = record { within = going_within table w q _ _ _ k.inv.0; each = k.each; bound = going_few table w q _ _ _ z k.inv.0; asked = tt; ending = tt }
-    conclude (InFlight q) k = record {
-      within = going_within table w q _ _ _ k.inv.0;
-      each = k.each;
-      bound = going_few table w q _ _ _ z k.inv.0;
-      asked = λ e. k.inv.2 (sym k.inv.1 ∙ e);
-      ending = tt;
-    }
+    conclude (Queued q) k =
+        let b = bounded table w q _ _ _ z k.inv.0 in
+        record { within = b.within; each = k.each; bound = omega (arith, b.few); asked = tt; ending = tt }
+    conclude (InFlight q) k =
+        let b = bounded table w q _ _ _ z k.inv.0 in
+        record { within = b.within; each = k.each; bound = omega (arith, b.few); asked = λ e. k.inv.2 (sym k.inv.1 ∙ e); ending = tt }
     conclude (Ended q o) k = record { within = k.inv.1; each = k.each; bound = k.inv.0; asked = tt; ending = k.inv.2 }

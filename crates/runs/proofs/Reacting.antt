@@ -24,29 +24,24 @@ use Rattle.runs.proofs.ReactingWrites.{send_reacts, write_reacts, sync_reacts}
 pub reacts : (table : List ChunkRow) (w : Wanted) (q : Request) (t : Tried) (tk : ℕ) (sy : Bool) (k : CqeResult) → 0 < bytes_wanted table w → Proper k → fits table q k ≡ true → Going table w q t tk sy →
     After table w (reacted table q k).outcome (reacted table q k).request (told (is_sync q) (range_end w) t (class_heard k)) (besides_retry (class_heard k) + tk) (synced_by (is_sync q) (class_heard k) sy)
 reacts table (wanted.Send d s) q t tk sy k z p f g =
-    let e = rw g.request_is at f in
-    rw (g.request_is, g.tried_is) (send_reacts table d s sy g.n tk g.c k p e g.placed g.left g.few)
+    let e = rw g.request_is at f in rw (g.request_is, g.tried_is) (send_reacts table d s sy g.n tk g.c k p e g.facts)
 reacts table (wanted.Recv d b m exact) q t tk sy k z p f g =
-    let e = rw g.request_is at f in
-    rw (g.request_is, g.tried_is) (recv_reacts table d b m sy exact g.n tk k p e g.left g.small g.inside g.few)
+    let e = rw g.request_is at f in rw (g.request_is, g.tried_is) (recv_reacts table d b m sy exact g.n tk k p e g.facts)
 reacts table (wanted.ReadAt fl offset b cache) q t tk sy k z p f g =
     let e = rw g.request_is at f in
     rw (g.request_is, g.tried_is) (read_plainly table fl offset b cache _ _ _ _ sy
-    (read_reacts fl offset b.place b.capacity b.length 0 table 0 g.n tk g.cache k p e g.left g.small g.ends g.inside g.few))
+    (read_reacts fl offset b.place b.capacity b.length 0 table 0 g.n tk g.cache k p e g.facts))
 reacts table (wanted.DirectReadAt fl d offset m place capacity) q t tk sy k z p f (inl g) =
-    let e = rw g.request_is at f in
-    rw (g.request_is, g.tried_is) (direct_reacts table fl d offset m place capacity sy g.n tk k p e
-    (record { left = g.left; some = g.some; small = g.small; ends = g.ends; fits = g.fits; inside = g.inside; few = g.few }))
+    let e = rw g.request_is at f in rw (g.request_is, g.tried_is) (direct_reacts table fl d offset m place capacity sy g.n tk k p e g.facts)
 reacts table (wanted.DirectReadAt fl d offset m place capacity) q t tk sy k z p f (inr g) =
     let e = rw g.request_is at f in
     rw (g.request_is, g.tried_is) (read_after_direct table fl d offset m place capacity _ _ _ _ sy
-    (read_reacts fl offset (place + offset % 4096) (capacity - offset % 4096) m (1 + (offset % 4096 + m - 1) / 4096) table (offset % 4096 + m) g.n tk g.cache k p e g.left g.small g.ends g.inside g.few))
+    (read_reacts fl offset (place + offset % 4096) (capacity - offset % 4096) m (1 + (offset % 4096 + m - 1) / 4096) table (offset % 4096 + m) g.n tk g.cache k p e g.facts))
 reacts table (wanted.WriteAt fl offset s m cache) q t tk sy k z p f (inl g) =
-    let e = rw g.0.request_is at f in
-    rw (g.0.request_is, g.0.tried_is, g.1) (write_reacts table fl offset s cache m g.0.n tk g.0.c g.0.cache k p e
-    (record { placed = g.0.placed; left = g.0.left; ends = g.0.ends; few = g.0.few }))
+    let e = rw g.request_is at f in
+    rw (g.request_is, g.tried_is, g.not_yet) (write_reacts table fl offset s cache m g.n tk g.c g.cache k p e g.facts)
 reacts table (wanted.WriteAt fl offset s m cache) q t tk sy k z p f (inr g) =
-    rw (g.request_is, g.tried_is, g.not_yet) (sync_reacts table fl offset s cache m tk g.c g.cache k g.made g.placed g.few z)
+    rw (g.request_is, g.tried_is, g.not_yet) (sync_reacts table fl offset s cache m tk g.c g.cache k g.facts z)
 reacts table (wanted.Sync fl) q t tk sy k z p f g = absurd (omega arith)
 
 -- a result as it is classified is heard as the laws hear it
