@@ -24,8 +24,7 @@ use Rattle.runs.specs.declared.transfer.Standing.TheVariants.{Queued, InFlight, 
 use Rattle.runs.specs.Runs.{stands, Run, Run.begins, Run.submits, Run.completes}
 use Rattle.runs.proofs.Placing.{at_length}
 use Rattle.runs.proofs.Going.{Going, After, bounded}
-use Rattle.runs.proofs.ReactingReads.{class_heard}
-use Rattle.runs.proofs.Reacting.{Matches, matches, Completed, read_in}
+use Rattle.runs.proofs.Reacting.{matches, CompletedWell, read_in}
 use Rattle.runs.proofs.Staging.{BuiltWell, stages}
 use Rattle.runs.proofs.Admitting.{AdmittedWell, admits}
 
@@ -58,71 +57,10 @@ moving table (wanted.WriteAt f offset s m cache) q t tk sy z (inl g) = rw (g.req
 moving table (wanted.WriteAt f offset s m cache) q t tk sy z (inr g) = rw (g.request_is, at_length table s _ g.c g.facts.placed) (not_empty _ z)
 moving table (wanted.Sync f) q t tk sy z g = absurd (omega arith)
 
--- a granted completion fits its submission
-
-module _ (table : List ChunkRow) (q : Request) where
-  abbrev FitWell : Heard → Result Step Denial → Type 0
-  FitWell e (Err d) = Unit {0}
-  FitWell e (Ok s) = FitsAsked (is_sync q) (bytes_submitted table q) e
-
-  no_bytes : (y : Bool) (n : ℕ) → FitsAsked y n retry
-  no_bytes true n = tt
-  no_bytes false n = tt
-
-  no_count : (y : Bool) (n code : ℕ) → FitsAsked y n (failed code)
-  no_count true n code = tt
-  no_count false n code = tt
-
-  zero_fits : (y : Bool) (n : ℕ) → FitsAsked y n (moved 0)
-  zero_fits true n = tt
-  zero_fits false n = omega arith
-
-  count_fits : (y : Bool) (n k : ℕ) → (y || leb k n) ≡ true → FitsAsked y n (moved k)
-  count_fits true n k e = tt
-  count_fits false n k e = leb-true _ _ e
-
-  class_fits : (k : CqeResult) → fits table q k ≡ true → FitsAsked (is_sync q) (bytes_submitted table q) (class_heard k)
-  class_fits Retry e = no_bytes (is_sync q) _
-  class_fits Cancelled e = no_count (is_sync q) _ 125
-  class_fits (Error code) e = no_count (is_sync q) _ code
-  class_fits Zero e = zero_fits (is_sync q) _
-  class_fits (Count n) e = count_fits (is_sync q) _ n e
-
-  granted_fits : (x b : Bool) (k : CqeResult) (d : Denial) → fits table q k ≡ b → FitWell (class_heard k) (cond b (Ok (settled x (reacted table q k))) (Err d))
-  granted_fits x true k d e = class_fits k e
-  granted_fits x false k d e = tt
-
-  fit_well : (x : Bool) (e : Heard) (o : Option CqeResult) → Matches e o → FitWell e (read_as table q x o)
-  fit_well x e None m = tt
-  fit_well x e (Some k) m = rw m.0 (granted_fits x (fits table q k) k _ refl)
-
 -- what was submitted asked for no less than the request says
 wider : (y z : Bool) (a b : ℕ) (e : Heard) → z ≡ y → (y ≡ false → a ≡ b) → FitsAsked y a e → FitsAsked z b e
-wider true true a b e i j f = tt
-wider true false a b e i j f = let x : ◌≡◌ {A = ℕ} 0 1 = cc in absurd (omega arith)
-wider false true a b e i j f = tt
-wider false false a b retry i j f = tt
-wider false false a b (failed code) i j f = tt
-wider false false a b (moved n) i j f = let k = j refl in omega (arith, k, f)
-
--- after a granted cancel nothing goes on
-
-goes_uncancelled : (x : Bool) (v : Option Outcome) → settled_outcome x v ≡ None → x ≡ false
-goes_uncancelled true None e = cc
-goes_uncancelled false None e = refl
-goes_uncancelled x (Some o) e = cc
-
-abbrev CancelWell : Bool → Result Step Denial → Type 0
-CancelWell x (Err d) = Unit {0}
-CancelWell x (Ok s) = s.outcome ≡ None → x ≡ false
-
-granted_cancels : (table : List ChunkRow) (q : Request) (x b : Bool) (k : CqeResult) (d : Denial) → CancelWell x (cond b (Ok (settled x (reacted table q k))) (Err d))
-granted_cancels table q x true k d = λ e. goes_uncancelled x (reacted table q k).outcome e
-granted_cancels table q x false k d = tt
-
-cancel_well : (table : List ChunkRow) (q : Request) (x : Bool) (o : Option CqeResult) → CancelWell x (read_as table q x o)
-cancel_well table q x None = tt
-cancel_well table q x (Some k) = granted_cancels table q x (fits table q k) k _
+wider true z a b e i j f = rw i tt
+wider false z a b e i j f = rw (i, ← j refl) f
 
 -- a run
 
@@ -144,18 +82,11 @@ pub record Kept (table : List ChunkRow) (w : Wanted) (p : Standing) (h : List Ev
   pub inv : Inv table w p h
   pub each : Each (Good table w) h
 
-completes_well : (table : List ChunkRow) (w : Wanted) (q : Request) (state : WaiterState) (r : ℤ) (h : List Event) → 0 < bytes_wanted table w → Inv table w (InFlight q) h →
-    Completed table w (cancel_granted state) (tried w (completed (cancel_granted state) r ∷ h)) (takes (completed (cancel_granted state) r ∷ h)) (synced (completed (cancel_granted state) r ∷ h)) (on_cqe table q state r)
-    × FitWell table q (heard r) (on_cqe table q state r)
-    × CancelWell (cancel_granted state) (on_cqe table q state r)
-completes_well table w q state r h z i =
-    let e = moving table w q (tried w h) (takes h) (synced h) z i.0 in
+completes_well : (table : List ChunkRow) (w : Wanted) (q : Request) (state : WaiterState) (r : ℤ) (h : List Event) → 0 < bytes_wanted table w → Going table w q (tried w h) (takes h) (synced h) →
+    CompletedWell table w q (cancel_granted state) (heard r) (tried w h) (takes h) (synced h) (on_cqe table q state r)
+completes_well table w q state r h z g =
     let x = cancel_granted state in
-    rw (e, i.1) (
-      read_in table w q (tried w h) (takes h) (synced h) x (heard r) (classified r x false) (matches r x) z i.0,
-      fit_well table q x (heard r) (classified r x false) (matches r x),
-      cancel_well table q x (classified r x false),
-    )
+    rw (moving table w q (tried w h) (takes h) (synced h) z g) (read_in table w q (tried w h) (takes h) (synced h) x (heard r) (classified r x false) (matches r x) z g)
 
 pub kept : {table : List ChunkRow} {w : Wanted} {p : Standing} {h : List Event} → Run table w p h → 0 < bytes_wanted table w → Kept table w p h
 kept {table} {w} (begins p q e i) z =
@@ -173,13 +104,10 @@ kept {table} {w} (submits p q g list after s h run b a i) z =
     })
 kept {table} {w} (completes p q state r s h run b i) z =
     let k = kept run z in
-    let c = completes_well table w q state r h z k.inv in
-    let a = subst (Completed table w (cancel_granted state) _ _ _) b c.0 in
-    let f = subst (FitWell table q (heard r)) b c.1 in
-    let x = subst (CancelWell (cancel_granted state)) b c.2 in
+    let c = subst (CompletedWell table w q (cancel_granted state) (heard r) (tried w h) (takes h) (synced h)) b (completes_well table w q state r h z k.inv.0) in
     rw i (record {
-      inv = completing table w s.outcome s.request (cancel_granted state) r h a x;
-      each = each_more (Good table w) (completed (cancel_granted state) r) h (wider (is_sync q) (fsync_last h) _ _ (heard r) k.inv.1 k.inv.2 f) k.each;
+      inv = completing table w s.outcome s.request (cancel_granted state) r h (rw k.inv.1 c.0) c.2;
+      each = each_more (Good table w) (completed (cancel_granted state) r) h (wider (is_sync q) (fsync_last h) _ _ (heard r) k.inv.1 k.inv.2 c.1) k.each;
     })
 
 pub every_run : EveryRunIsLawful

@@ -1,6 +1,6 @@
 -- A granted completion keeps what holds, whatever was wanted.
-use Rattle.std.proofs.Common.{◌≡◌, ℕ, ◌+◌, ◌-◌, ◌/◌, ◌%◌, ◌<◌, Bool, true, false, cond, ◌&&◌, ◌||◌, eqb, ltb, List, ℤ, pos, negsuc, Some, None, Ok, Err, Option, Result, refl, ap, inl, inr, arith}
-use Rattle.std.proofs.lemmas.Bool.{eqb-true, eqb-false}
+use Rattle.std.proofs.Common.{◌≡◌, ℕ, ◌+◌, ◌-◌, ◌/◌, ◌%◌, ◌<◌, Bool, true, false, cond, ◌&&◌, ◌||◌, eqb, ltb, leb, List, ℤ, pos, negsuc, Some, None, Ok, Err, Option, Result, refl, ap, inl, inr, arith}
+use Rattle.std.proofs.lemmas.Bool.{cond_both, leb-true, eqb-true, eqb-false}
 use Rattle.records.specs.declared.buffer.ChunkRow.{ChunkRow}
 use Rattle.records.specs.declared.denial.Denial.{Denial}
 use Rattle.records.specs.declared.outcome.Outcome.{Outcome}
@@ -8,6 +8,7 @@ use Rattle.records.specs.declared.outcome.Outcome.TheVariants as outcome
 use Rattle.request.specs.declared.kinds.Request.{Request}
 use Rattle.request.specs.declared.kinds.Wanted.{Wanted}
 use Rattle.request.specs.declared.kinds.Wanted.TheVariants as wanted
+use Rattle.request.specs.Progress.{bytes_submitted}
 use Rattle.cqe.specs.declared.result.CqeResult.{CqeResult}
 use Rattle.cqe.specs.declared.result.CqeResult.TheVariants.{Retry, Cancelled, Error, Zero, Count}
 use Rattle.cqe.specs.declared.step.Step.{Step}
@@ -15,6 +16,7 @@ use Rattle.cqe.specs.Classes.{classified, error_class}
 use Rattle.cqe.specs.Cqe.{fits, reacted, is_sync, read_as}
 use Rattle.cqe.specs.Steps.{settled, settled_outcome}
 use Rattle.runs.specs.Notions.{Heard, Heard.retry, Heard.failed, Heard.moved, heard, Tried, bytes_wanted, besides_retry, told, synced_by, range_end}
+use Rattle.runs.specs.Laws.{FitsAsked}
 use Rattle.runs.proofs.Going.{Going, After, stopping}
 use Rattle.runs.proofs.ReactingReads.{class_heard, Proper, recv_reacts, read_reacts, direct_reacts, read_plainly, read_after_direct}
 use Rattle.runs.proofs.ReactingWrites.{send_reacts, write_reacts, sync_reacts}
@@ -74,17 +76,36 @@ settles table w true None q t tk sy z a = stopping table w outcome.Timeout q t t
 settles table w false None q t tk sy z a = a
 settles table w x (Some o) q t tk sy z a = a
 
--- what a granted completion leaves, and that a cancelled one ends
-abbrev pub Completed : List ChunkRow → Wanted → (cancelled : Bool) → Tried → ℕ → Bool → Result Step Denial → Type 0
-Completed table w x t tk sy (Err d) = Unit {0}
-Completed table w x t tk sy (Ok s) = After table w s.outcome s.request t tk sy
+-- a count that is granted fits what was asked for
+class_fits : (y : Bool) (n : ℕ) (k : CqeResult) → ((j : ℕ) → k ≡ Count j → (y || leb j n) ≡ true) → FitsAsked y n (class_heard k)
+class_fits true n k h = tt
+class_fits false n Retry h = tt
+class_fits false n Cancelled h = tt
+class_fits false n (Error code) h = tt
+class_fits false n Zero h = omega arith
+class_fits false n (Count j) h = leb-true _ _ (h j refl)
 
-fitting : (table : List ChunkRow) (w : Wanted) (q : Request) (t : Tried) (tk : ℕ) (sy x : Bool) (k : CqeResult) (d : Denial) (b : Bool) → fits table q k ≡ b → 0 < bytes_wanted table w → Proper k → Going table w q t tk sy →
-    Completed table w x (told (is_sync q) (range_end w) t (class_heard k)) (besides_retry (class_heard k) + tk) (synced_by (is_sync q) (class_heard k) sy) (cond b (Ok (settled x (reacted table q k))) (Err d))
-fitting table w q t tk sy x k d true f z p g = settles table w x (reacted table q k).outcome (reacted table q k).request _ _ _ z (reacts table w q t tk sy k z p f g)
-fitting table w q t tk sy x k d false f z p g = tt
+goes_uncancelled : (x : Bool) (v : Option Outcome) → settled_outcome x v ≡ None → x ≡ false
+goes_uncancelled true None e = cc
+goes_uncancelled false None e = refl
+goes_uncancelled x (Some o) e = cc
+
+-- what a granted completion leaves, that it fits, and that a cancelled one ends
+abbrev pub CompletedWell : List ChunkRow → Wanted → Request → (cancelled : Bool) → Heard → Tried → ℕ → Bool → Result Step Denial → Type 0
+CompletedWell table w q x e t tk sy (Err d) = Unit {0}
+CompletedWell table w q x e t tk sy (Ok s) =
+    After table w s.outcome s.request (told (is_sync q) (range_end w) t e) (besides_retry e + tk) (synced_by (is_sync q) e sy)
+    × FitsAsked (is_sync q) (bytes_submitted table q) e
+    × (s.outcome ≡ None → x ≡ false)
 
 pub read_in : (table : List ChunkRow) (w : Wanted) (q : Request) (t : Tried) (tk : ℕ) (sy x : Bool) (e : Heard) (o : Option CqeResult) → Matches e o → 0 < bytes_wanted table w → Going table w q t tk sy →
-    Completed table w x (told (is_sync q) (range_end w) t e) (besides_retry e + tk) (synced_by (is_sync q) e sy) (read_as table q x o)
+    CompletedWell table w q x e t tk sy (read_as table q x o)
 read_in table w q t tk sy x e None m z g = tt
-read_in table w q t tk sy x e (Some k) m z g = rw m.0 (fitting table w q t tk sy x k _ (fits table q k) refl z m.1 g)
+read_in table w q t tk sy x e (Some k) m z g =
+    rw m.0 (cond_both (fits table q k) _ _ (CompletedWell table w q x (class_heard k) t tk sy)
+    (λ f. (
+      settles table w x (reacted table q k).outcome (reacted table q k).request _ _ _ z (reacts table w q t tk sy k z m.1 f g),
+      class_fits (is_sync q) (bytes_submitted table q) k (λ j i. rw i at f),
+      goes_uncancelled x (reacted table q k).outcome,
+    ))
+    (λ f. tt))
