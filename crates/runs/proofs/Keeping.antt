@@ -34,8 +34,8 @@ module _ {A : Type 0} (P : A → List A → Type 0) where
   Each h = (later earlier : List A) (e : A) → h ≡ later ++ (e ∷ earlier) → P e earlier
 
   pub each_none : Each []
-  each_none [] earlier e eq = let z : ◌≡◌ {A = ℕ} 0 1 = cc in absurd (omega arith)
-  each_none (x ∷ later) earlier e eq = let z : ◌≡◌ {A = ℕ} 0 1 = cc in absurd (omega arith)
+  each_none [] earlier e eq = cc
+  each_none (x ∷ later) earlier e eq = cc
 
   pub each_more : (e : A) (h : List A) → P e h → Each h → Each (e ∷ h)
   each_more e h p all [] earlier e' eq =
@@ -95,9 +95,7 @@ kept {table} {w} (begins p q e i) z =
 kept {table} {w} (submits p q g list after s h run b a i) z =
     let k = kept run z in
     let c : BuiltWell table w (tried w h) (takes h) (synced h) (Ok s) after =
-    subst (λ r. BuiltWell table w (tried w h) (takes h) (synced h) r after) b
-    (subst (λ l. BuiltWell table w (tried w h) (takes h) (synced h) (built table q g list) l) (sym a)
-    (stages table w q (tried w h) (takes h) (synced h) g list z k.inv.0)) in
+    subst (λ r. BuiltWell table w (tried w h) (takes h) (synced h) r after) b (rw a (stages table w q (tried w h) (takes h) (synced h) g list z k.inv.0)) in
     rw i (record {
       inv = (c.0, c.1, c.2);
       each = each_more (Good table w) (submitted s.submission after) h (c.3, k.inv.1) k.each;
