@@ -1,6 +1,6 @@
 -- An admitted transfer begins with what holds.
-use Rattle.std.proofs.Common.{◌≡◌, ℕ, ◌+◌, ◌%◌, ◌<◌, ◌≤◌, min, Bool, true, false, cond, ◌&&◌, eqb, ltb, leb, List, length, Some, None, Ok, Err, Option, Result, refl, ap, ◌∙◌, inl, arith}
-use Rattle.std.proofs.lemmas.Bool.{cond_both, leb-true, and_parts}
+use Rattle.std.proofs.Common.{◌≡◌, ℕ, ◌+◌, ◌<◌, ◌≤◌, Bool, true, false, cond, ◌&&◌, leb, List, length, Some, None, Ok, Err, Option, Result, refl, ap, ◌∙◌, inl, arith}
+use Rattle.std.proofs.lemmas.Bool.{cond_both, leb-true}
 use Rattle.std.proofs.lemmas.Bool.Decides.{nat_tests}
 use Rattle.records.specs.declared.buffer.ChunkRow.{ChunkRow}
 use Rattle.records.specs.declared.denial.Denial.{Denial}
@@ -22,7 +22,7 @@ use Rattle.request.specs.declared.kinds.Request.{Request}
 use Rattle.request.specs.declared.kinds.Request.TheVariants as request
 use Rattle.request.specs.declared.kinds.Wanted.{Wanted}
 use Rattle.request.specs.declared.kinds.Wanted.TheVariants as wanted
-use Rattle.request.specs.Admission.{admitted, begun, rows_begun, range_limits, send_begun, recv_begun, read_begun, direct_begun, direct_limits, write_begun, aligned_end, superset_length}
+use Rattle.request.specs.Admission.{admitted, begun, rows_begun, range_limits, send_begun, recv_begun, read_begun, direct_begun, direct_limits, write_begun}
 use Rattle.rows.proofs.CursorLaws.{inside_none}
 use Rattle.rows.specs.Vectors.{range, total, all_within, inside_table, limited}
 use Rattle.runs.specs.Notions.{bytes_wanted, source_bytes, sum, rows_of, first_attempt}

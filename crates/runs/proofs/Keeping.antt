@@ -1,8 +1,7 @@
 -- Every run of a transfer keeps the laws.
-use Rattle.std.proofs.Common.{◌≡◌, ℕ, ◌<◌, Bool, true, false, cond, ◌||◌, eqb, leb, List, [], ◌∷◌, ◌++◌, ℤ, Some, None, Ok, Err, Option, Result, sym, refl, ◌∙◌, subst, inl, inr, arith}
-use Rattle.std.proofs.lemmas.Bool.{ne_eqb, leb-true}
+use Rattle.std.proofs.Common.{◌≡◌, ℕ, ◌<◌, Bool, true, false, eqb, List, [], ◌∷◌, ◌++◌, ℤ, Some, None, Ok, Option, sym, refl, ◌∙◌, subst, inl, inr, arith}
+use Rattle.std.proofs.lemmas.Bool.{ne_eqb}
 use Rattle.records.specs.declared.buffer.ChunkRow.{ChunkRow}
-use Rattle.records.specs.declared.denial.Denial.{Denial}
 use Rattle.records.specs.declared.waiter.WaiterState.{WaiterState}
 use Rattle.records.specs.declared.outcome.Outcome.{Outcome}
 use Rattle.records.specs.States.{cancel_granted}
@@ -10,14 +9,9 @@ use Rattle.request.specs.declared.kinds.Request.{Request}
 use Rattle.request.specs.declared.kinds.Wanted.{Wanted}
 use Rattle.request.specs.declared.kinds.Wanted.TheVariants as wanted
 use Rattle.request.specs.Progress.{bytes_to_move, bytes_submitted}
-use Rattle.cqe.specs.declared.result.CqeResult.{CqeResult}
-use Rattle.cqe.specs.declared.result.CqeResult.TheVariants.{Retry, Cancelled, Error, Zero, Count}
-use Rattle.cqe.specs.declared.step.Step.{Step}
 use Rattle.cqe.specs.Classes.{classified}
-use Rattle.cqe.specs.Cqe.{is_sync, fits, reacted, read_as, on_cqe}
-use Rattle.cqe.specs.Steps.{settled, settled_outcome}
-use Rattle.sqe.specs.Building.{built}
-use Rattle.runs.specs.Notions.{Event, Event.submitted, Event.completed, Heard, Heard.retry, Heard.failed, Heard.moved, heard, Tried, bytes_wanted, takes, tried, synced, fsync_last, asked_last, cancelled_last}
+use Rattle.cqe.specs.Cqe.{is_sync, on_cqe}
+use Rattle.runs.specs.Notions.{Event, Event.submitted, Event.completed, Heard, heard, Tried, bytes_wanted, takes, tried, synced, fsync_last, asked_last, cancelled_last}
 use Rattle.runs.specs.Laws.{Good, FitsAsked, Lawful, EveryRunIsLawful}
 use Rattle.runs.specs.declared.transfer.Standing.{Standing}
 use Rattle.runs.specs.declared.transfer.Standing.TheVariants.{Queued, InFlight, Ended}

@@ -1,10 +1,9 @@
 -- The laws' words for rows and the calls' words for them.
-use Rattle.std.proofs.Common.{◌≡◌, ℕ, zero, suc, ◌+◌, ◌-◌, ◌≤◌, true, ◌&&◌, leb, List, [], ◌∷◌, take, drop, refl, ap, arith}
-use Rattle.std.proofs.lemmas.Bool.{leb-true, and_parts}
+use Rattle.std.proofs.Common.{◌≡◌, ℕ, ◌+◌, ◌-◌, ◌≤◌, true, List, [], ◌∷◌, drop, refl, ap, arith}
+use Rattle.std.proofs.lemmas.Bool.{and_parts}
 use Rattle.std.proofs.lemmas.Bool.Decides.{nat_tests}
 use Rattle.std.proofs.lemmas.List.{take-take, drop-take}
 use Rattle.records.specs.Limits.{row_limits}
-use Rattle.records.specs.Sums.{plus}
 use Rattle.records.specs.declared.buffer.ChunkRow.{ChunkRow}
 use Rattle.records.specs.declared.buffer.Iovec.{Iovec}
 use Rattle.rows.specs.Laws.{Sound}

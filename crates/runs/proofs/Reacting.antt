@@ -14,7 +14,7 @@ use Rattle.cqe.specs.declared.result.CqeResult.TheVariants.{Retry, Cancelled, Er
 use Rattle.cqe.specs.declared.step.Step.{Step}
 use Rattle.cqe.specs.Classes.{classified, error_class}
 use Rattle.cqe.specs.Cqe.{fits, reacted, is_sync, read_as}
-use Rattle.cqe.specs.Steps.{settled, settled_outcome}
+use Rattle.cqe.specs.Steps.{settled_outcome}
 use Rattle.runs.specs.Notions.{Heard, Heard.retry, Heard.failed, Heard.moved, heard, Tried, bytes_wanted, besides_retry, told, synced_by, range_end}
 use Rattle.runs.specs.Laws.{FitsAsked}
 use Rattle.runs.proofs.Going.{Going, After, stopping}

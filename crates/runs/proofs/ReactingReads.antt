@@ -23,7 +23,7 @@ use Rattle.cqe.specs.Cqe.{fits}
 use Rattle.cqe.specs.Reads.{recv_step, buffered_step, direct_step, given_up, without_hint}
 use Rattle.cqe.specs.Steps.{unhinted, goes_on, ends}
 use Rattle.runs.specs.Notions.{Heard, Heard.retry, Heard.failed, Heard.moved, Tried, Tried.directly, Tried.plainly, lead, reports, besides_retry, counted_directly}
-use Rattle.runs.proofs.Going.{hint, receiving, reading, directing, RecvFacts, ReadFacts, DirectFacts, Receiving, Reading, Directly, After, not_ok, ends_badly}
+use Rattle.runs.proofs.Going.{hint, receiving, reading, directing, RecvFacts, ReadFacts, DirectFacts, Receiving, Reading, After, not_ok, ends_badly}
 
 -- a classified result in the laws' words
 abbrev pub class_heard : CqeResult → Heard

@@ -4,16 +4,14 @@ use Rattle.std.proofs.lemmas.Bool.{cond_both, ltb-true, ltb-false, leb-true, and
 use Rattle.records.specs.declared.buffer.ChunkRow.{ChunkRow}
 use Rattle.records.specs.declared.id.FileId.{FileId}
 use Rattle.records.specs.declared.mode.Cache.{Cache}
-use Rattle.records.specs.declared.mode.Cache.TheVariants.{Enabled, Disabled}
+use Rattle.records.specs.declared.mode.Cache.TheVariants.{Enabled}
 use Rattle.records.specs.declared.mode.WriteMode.{WriteMode}
 use Rattle.records.specs.declared.mode.WriteMode.TheVariants as mode
-use Rattle.records.specs.declared.mode.WriteAtState.TheVariants as state
 use Rattle.records.specs.declared.outcome.Outcome.{Outcome}
 use Rattle.records.specs.declared.outcome.Outcome.TheVariants as outcome
 use Rattle.records.specs.declared.write.Cursor.{Cursor}
 use Rattle.records.specs.declared.write.Source.{Source}
 use Rattle.records.specs.Modes.{hinting, started}
-use Rattle.request.specs.declared.kinds.SendRequest.{SendRequest}
 use Rattle.request.specs.declared.kinds.WriteAtRequest.{WriteAtRequest}
 use Rattle.request.specs.declared.kinds.Request.TheVariants as request
 use Rattle.request.specs.declared.kinds.Wanted.TheVariants as wanted
@@ -28,7 +26,7 @@ use Rattle.cqe.specs.Writes.{send_step, bytes_step, write_step, write_whole, wit
 use Rattle.runs.specs.Notions.{Tried, Tried.plainly, source_bytes, reports, besides_retry, told, synced_by}
 use Rattle.runs.specs.Laws.{SyncedIf}
 use Rattle.runs.proofs.Placing.{Placed, Moved, write_at, at_left, at_moves}
-use Rattle.runs.proofs.Going.{hint, sending, writing, owing, SendFacts, WriteFacts, OwedFacts, Sending, After, ends_badly}
+use Rattle.runs.proofs.Going.{sending, writing, owing, SendFacts, WriteFacts, OwedFacts, Sending, After, ends_badly}
 use Rattle.runs.proofs.ReactingReads.{class_heard, hint_given, Proper}
 
 -- sends

@@ -1,5 +1,5 @@
 -- A submission begins where the laws say, and the request in flight keeps what holds.
-use Rattle.std.proofs.Common.{◌≡◌, ℕ, suc, ◌+◌, ◌-◌, ◌%◌, ◌<◌, ◌≤◌, min, Bool, true, false, cond, ltb, List, [], ◌∷◌, ◌++◌, length, take, drop, Ok, Err, Result, sym, refl, ap, ◌∙◌, inl, inr, arith}
+use Rattle.std.proofs.Common.{◌≡◌, ℕ, suc, ◌-◌, ◌<◌, ◌≤◌, min, Bool, true, false, cond, ltb, List, [], ◌∷◌, ◌++◌, length, take, drop, Ok, Err, Result, sym, refl, ap, ◌∙◌, inl, inr, arith}
 use Rattle.std.proofs.lemmas.List.{take_at}
 use Rattle.records.specs.declared.submission.Opcode.TheVariants as op
 use Rattle.records.specs.declared.buffer.ChunkRow.{ChunkRow}
@@ -14,9 +14,7 @@ use Rattle.records.specs.declared.mode.WriteMode.TheVariants as mode
 use Rattle.records.specs.declared.write.Cursor.{Cursor}
 use Rattle.records.specs.declared.write.Source.{Source}
 use Rattle.records.specs.declared.write.Source.TheVariants as source
-use Rattle.records.specs.Modes.{started}
 use Rattle.records.specs.Sums.{plus}
-use Rattle.request.specs.declared.kinds.WriteAtRequest.{WriteAtRequest}
 use Rattle.request.specs.declared.kinds.Request.{Request}
 use Rattle.request.specs.declared.kinds.Request.TheVariants as request
 use Rattle.request.specs.declared.kinds.Wanted.{Wanted}
@@ -29,10 +27,10 @@ use Rattle.cqe.specs.Cqe.{is_sync}
 use Rattle.sqe.specs.declared.Setting.{Setting}
 use Rattle.sqe.specs.declared.Staged.{Staged}
 use Rattle.sqe.specs.Building.{built, built_list, kept_hint, send_built, bytes_built, rows_part}
-use Rattle.runs.specs.Notions.{Tried, Tried.plainly, is_fsync, asks_for, sizes, rows_of, source_bytes, bytes_wanted}
+use Rattle.runs.specs.Notions.{Tried, Tried.plainly, is_fsync, asks_for, sizes, rows_of, bytes_wanted}
 use Rattle.runs.specs.Laws.{Begins}
 use Rattle.runs.proofs.Links.{sizes_is}
-use Rattle.runs.proofs.Placing.{Placed, RowsPlaced, write_at}
+use Rattle.runs.proofs.Placing.{RowsPlaced}
 use Rattle.runs.proofs.Going.{hint, sending, writing, SendFacts, ReadFacts, WriteFacts, Going}
 
 -- what a built submission is, for the request in flight
