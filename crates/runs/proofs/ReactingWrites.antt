@@ -16,7 +16,7 @@ use Rattle.request.specs.declared.kinds.WriteAtRequest.{WriteAtRequest}
 use Rattle.request.specs.declared.kinds.Request.TheVariants as request
 use Rattle.request.specs.declared.kinds.Wanted.TheVariants as wanted
 use Rattle.request.specs.Completing.{ended_well}
-use Rattle.request.specs.Progress.{write_submitted}
+use Rattle.request.specs.Progress.{write_submitted, written_in}
 use Rattle.cqe.specs.declared.result.CqeResult.{CqeResult}
 use Rattle.cqe.specs.declared.result.CqeResult.TheVariants.{Retry, Cancelled, Error, Zero, Count}
 use Rattle.cqe.specs.declared.step.Step.{Step}
@@ -60,6 +60,18 @@ synced_true : (m : WriteMode) → SyncedIf m true
 synced_true mode.Writing = tt
 synced_true mode.WritingSync = tt
 synced_true mode.WritingBeforeSync = refl
+
+-- a write's bytes are submitted as bytes in each mode
+
+pub not_syncing : (m : WriteMode) → syncs_in (started m) ≡ false
+not_syncing mode.Writing = refl
+not_syncing mode.WritingSync = refl
+not_syncing mode.WritingBeforeSync = refl
+
+pub all_submitted : (m : WriteMode) (n : ℕ) → written_in (started m) n ≡ n
+all_submitted mode.Writing n = refl
+all_submitted mode.WritingSync n = refl
+all_submitted mode.WritingBeforeSync n = refl
 
 no_error : (m : WriteMode) (code : ℕ) → ended_well (write_error (started m) code) ≡ false
 no_error mode.Writing code = refl
@@ -116,13 +128,13 @@ module _ (table : List ChunkRow) (f : FileId) (offset : ℕ) (s : Source) (made 
       (λ e. let b = ltb-true _ _ e in write_on m (n + k) (1 + tk) v.cursor cache (record { placed = v.placed; left = omega arith; ends = a.ends; few = omega arith }))
       (λ e. let b = ltb-false _ _ e in write_ends m n (n + k) (1 + tk) c v.cursor cache v.placed (omega arith) (omega arith)))
 
-  bytes_reacts : (m : WriteMode) (n tk : ℕ) (c : Cursor) (cache : Cache) (k : CqeResult) → Proper k → ((j : ℕ) → k ≡ Count j → j ≤ write_submitted table (write_at table s n c)) → WriteFacts table offset s n tk c cache →
+  bytes_reacts : (m : WriteMode) (n tk : ℕ) (c : Cursor) (cache : Cache) (k : CqeResult) → Proper k → fits table (request.WriteAt (at m n c cache)) k ≡ true → WriteFacts table offset s n tk c cache →
       Leaves m (bytes_step table (at m n c cache) k) (reports 0 (plainly n) (class_heard k)) (besides_retry (class_heard k) + tk)
   bytes_reacts m n tk c cache Retry p g a = rw zero-add (write_on m n tk c cache a)
   bytes_reacts m n tk c cache Cancelled p g a = write_fails m outcome.WriteFailed n tk c cache refl a
   bytes_reacts m n tk c cache (Error code) p g a = write_errs m n tk code c cache a
   bytes_reacts m n tk c cache Zero p g a = rw (add-zero n) (write_fails m outcome.WriteFailed n tk c cache refl a)
-  bytes_reacts m n tk c cache (Count k) p g a = write_counts m n tk k c cache p (g k refl) a
+  bytes_reacts m n tk c cache (Count k) p g a = write_counts m n tk k c cache p (leb-true _ _ (rw (not_syncing m, all_submitted m) at g)) a
 
   -- the trailing sync
 
@@ -143,17 +155,9 @@ module _ (table : List ChunkRow) (f : FileId) (offset : ℕ) (s : Source) (made 
   sync_reacts m tk c cache Zero a z = (omega arith, omega arith, ((λ o. (omega arith, synced_true m)), (λ o y. refl)))
   sync_reacts m tk c cache (Count k) a z = (omega arith, omega arith, ((λ o. (omega arith, synced_true m)), (λ o y. refl)))
 
-  -- a write in each of its modes
-
-  counts_fit : (m : WriteMode) (n : ℕ) (c : Cursor) (cache : Cache) (k : CqeResult) → fits table (request.WriteAt (at m n c cache)) k ≡ true →
-      (j : ℕ) → k ≡ Count j → j ≤ write_submitted table (write_at table s n c)
-  counts_fit mode.Writing n c cache k g j e = leb-true _ _ (rw e at g)
-  counts_fit mode.WritingSync n c cache k g j e = leb-true _ _ (rw e at g)
-  counts_fit mode.WritingBeforeSync n c cache k g j e = leb-true _ _ (rw e at g)
-
   pub write_reacts : (m : WriteMode) (n tk : ℕ) (c : Cursor) (cache : Cache) (k : CqeResult) → Proper k → fits table (request.WriteAt (at m n c cache)) k ≡ true → WriteFacts table offset s n tk c cache →
       After table (wanted.WriteAt f offset s m made) (write_step table (at m n c cache) k).outcome (write_step table (at m n c cache) k).request
       (told (syncs_in (started m)) 0 (plainly n) (class_heard k)) (besides_retry (class_heard k) + tk) (synced_by (syncs_in (started m)) (class_heard k) false)
-  write_reacts mode.Writing n tk c cache k p g a = bytes_reacts mode.Writing n tk c cache k p (counts_fit mode.Writing n c cache k g) a
-  write_reacts mode.WritingSync n tk c cache k p g a = bytes_reacts mode.WritingSync n tk c cache k p (counts_fit mode.WritingSync n c cache k g) a
-  write_reacts mode.WritingBeforeSync n tk c cache k p g a = bytes_reacts mode.WritingBeforeSync n tk c cache k p (counts_fit mode.WritingBeforeSync n c cache k g) a
+  write_reacts mode.Writing n tk c cache k p g a = bytes_reacts mode.Writing n tk c cache k p g a
+  write_reacts mode.WritingSync n tk c cache k p g a = bytes_reacts mode.WritingSync n tk c cache k p g a
+  write_reacts mode.WritingBeforeSync n tk c cache k p g a = bytes_reacts mode.WritingBeforeSync n tk c cache k p g a

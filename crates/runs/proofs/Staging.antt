@@ -31,6 +31,7 @@ use Rattle.runs.specs.Notions.{Tried, Tried.plainly, is_fsync, asks_for, sizes, 
 use Rattle.runs.specs.Laws.{Begins}
 use Rattle.runs.proofs.Links.{sizes_is}
 use Rattle.runs.proofs.Placing.{RowsPlaced}
+use Rattle.runs.proofs.ReactingWrites.{not_syncing, all_submitted}
 use Rattle.runs.proofs.Going.{hint, sending, writing, SendFacts, ReadFacts, WriteFacts, Going}
 
 -- what a built submission is, for the request in flight
@@ -129,46 +130,42 @@ module _ (table : List ChunkRow) (f : FileId) (offset : ℕ) (made : Cache) wher
 
   write_rows : (b : Bool) (first count : ℕ) (m : WriteMode) (n tk : ℕ) (c : Cursor) (cache : Cache) (g : Setting) (list : List Iovec) →
       WriteFacts table offset (source.Rows first count) n tk c cache →
-      (is_sync (request.WriteAt (writing table f offset (source.Rows first count) m n c (kept_hint cache g.hints))) ≡ false) →
-      (bytes_submitted table (request.WriteAt (writing table f offset (source.Rows first count) m n c (kept_hint cache g.hints))) ≡ min (iovec_bytes (iovecs table first count n c list)) 18446744073709551615) →
       BuiltWell table (wanted.WriteAt f offset (source.Rows first count) m made) (plainly n) tk false
       (bytes_built (writing table f offset (source.Rows first count) m n c cache) g
       (rows_part g.list (cond b (Err (ListTooShort (length (carried table first count c.row)))) (Ok (length (carried table first count c.row))))))
       (cond b list (after table first count n c list))
-  write_rows true first count m n tk c cache g list a i j = tt
-  write_rows false first count m n tk c cache g list a i j = (
+  write_rows true first count m n tk c cache g list a = tt
+  write_rows false first count m n tk c cache g list a = (
     write_on (source.Rows first count) m n tk c cache g.hints a,
-    sym i,
-    (λ z. j ∙ exactly table first count n c list a.placed),
+    sym (not_syncing m),
+    (λ z. all_submitted m _ ∙ exactly table first count n c list a.placed),
     (omega arith, pieces table first count n c list a.placed, a.left),
   )
 
   write_single : (place k : ℕ) (m : WriteMode) (n tk : ℕ) (c : Cursor) (cache : Cache) (g : Setting) (list : List Iovec) →
       WriteFacts table offset (source.Single place k) n tk c cache →
-      (is_sync (request.WriteAt (writing table f offset (source.Single place k) m n c (kept_hint cache g.hints))) ≡ false) →
-      (bytes_submitted table (request.WriteAt (writing table f offset (source.Single place k) m n c (kept_hint cache g.hints))) ≡ min (k - n) 4294967295) →
       BuiltWell table (wanted.WriteAt f offset (source.Single place k) m made) (plainly n) tk false
       (bytes_built (writing table f offset (source.Single place k) m n c cache) g (Ok (record { opcode = op.Write; place = plus place n; length = min (k - n) 4294967295 })))
       list
-  write_single place k m n tk c cache g list a i j =
+  write_single place k m n tk c cache g list a =
       let p = a.placed in (
         write_on (source.Single place k) m n tk c cache g.hints a,
-        sym i,
-        (λ z. j),
+        sym (not_syncing m),
+        (λ z. all_submitted m _),
         (omega arith, omega arith, a.left),
       )
 
   write_stages : (s : Source) (m : WriteMode) (n tk : ℕ) (c : Cursor) (cache : Cache) (g : Setting) (list : List Iovec) → WriteFacts table offset s n tk c cache →
       BuiltWell table (wanted.WriteAt f offset s m made) (plainly n) tk false (built table (request.WriteAt (writing table f offset s m n c cache)) g list) (built_list table (request.WriteAt (writing table f offset s m n c cache)) list)
-  write_stages (source.Single place k) mode.Writing n tk c cache g list a = write_single place k mode.Writing n tk c cache g list a refl refl
-  write_stages (source.Single place k) mode.WritingSync n tk c cache g list a = write_single place k mode.WritingSync n tk c cache g list a refl refl
-  write_stages (source.Single place k) mode.WritingBeforeSync n tk c cache g list a = write_single place k mode.WritingBeforeSync n tk c cache g list a refl refl
+  write_stages (source.Single place k) mode.Writing n tk c cache g list a = write_single place k mode.Writing n tk c cache g list a
+  write_stages (source.Single place k) mode.WritingSync n tk c cache g list a = write_single place k mode.WritingSync n tk c cache g list a
+  write_stages (source.Single place k) mode.WritingBeforeSync n tk c cache g list a = write_single place k mode.WritingBeforeSync n tk c cache g list a
   write_stages (source.Rows first count) mode.Writing n tk c cache g list a =
-      write_rows (ltb (length list) (length (carried table first count c.row))) first count mode.Writing n tk c cache g list a refl refl
+      write_rows (ltb (length list) (length (carried table first count c.row))) first count mode.Writing n tk c cache g list a
   write_stages (source.Rows first count) mode.WritingSync n tk c cache g list a =
-      write_rows (ltb (length list) (length (carried table first count c.row))) first count mode.WritingSync n tk c cache g list a refl refl
+      write_rows (ltb (length list) (length (carried table first count c.row))) first count mode.WritingSync n tk c cache g list a
   write_stages (source.Rows first count) mode.WritingBeforeSync n tk c cache g list a =
-      write_rows (ltb (length list) (length (carried table first count c.row))) first count mode.WritingBeforeSync n tk c cache g list a refl refl
+      write_rows (ltb (length list) (length (carried table first count c.row))) first count mode.WritingBeforeSync n tk c cache g list a
 
 -- each kind
 
