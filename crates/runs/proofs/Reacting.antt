@@ -53,7 +53,7 @@ Matches e (Some k) = (e ≡ class_heard k) × Proper k
 
 count_matches : (n : ℕ) (b : Bool) → eqb n 0 ≡ b → Matches (moved n) (Some (cond (b && true) Zero (Count n)))
 count_matches n true e = (ap moved (eqb-true n 0 e), tt)
-count_matches n false e = (refl, let h = eqb-false n 0 e in omega (arith, h))
+count_matches n false e = (refl, omega (arith, eqb-false n 0 e))
 
 error_matches : (code : ℕ) (a b x : Bool) → eqb code 125 ≡ b → Matches (cond a retry (failed code)) (Some (cond a Retry (cond (b && x) Cancelled (Error code))))
 error_matches code true b x e = (refl, tt)
