@@ -6,6 +6,8 @@ use Rattle.records.specs.Bytes.{four, eight, laid_out}
 use Rattle.records.specs.Encodings.{Fits, Encodings}
 use Rattle.records.specs.declared.submission.Submission.{Submission}
 
+-- equal bytes are of equal numbers
+
 same_four : (x y : ℕ) → x < 4294967296 → y < 4294967296 → from_le_bytes w32 (four x) ≡ from_le_bytes w32 (four y) → x ≡ y
 same_four x y hx hy e = sym (from_le_bytes-to_le_bytes_4 x hx) ∙ e ∙ from_le_bytes-to_le_bytes_4 y hy
 

@@ -1,6 +1,7 @@
 -- An admitted transfer begins with what holds.
-use Rattle.std.proofs.Common.{◌≡◌, ℕ, ◌+◌, ◌%◌, ◌<◌, ◌≤◌, min, Bool, true, false, cond, ◌&&◌, eqb, ltb, leb, List, length, Some, None, Ok, Err, Option, Result, refl, ap, ◌∙◌, inl, arith}
-use Rattle.std.proofs.lemmas.Bool.{cond_both, leb-true, and_parts}
+use Rattle.std.proofs.Common.{◌≡◌, ℕ, ◌+◌, ◌<◌, ◌≤◌, Bool, true, false, cond, ◌&&◌, leb, List, length, Some, None, Ok, Err, Option, Result, refl, ap, ◌∙◌, inl, arith}
+use Rattle.std.proofs.lemmas.Bool.{cond_both, leb-true}
+use Rattle.std.proofs.lemmas.Bool.Decides.{nat_tests}
 use Rattle.records.specs.declared.buffer.ChunkRow.{ChunkRow}
 use Rattle.records.specs.declared.denial.Denial.{Denial}
 use Rattle.records.specs.declared.denial.Denial.TheVariants.{LimitBroken, UnfitForDirect}
@@ -21,7 +22,7 @@ use Rattle.request.specs.declared.kinds.Request.{Request}
 use Rattle.request.specs.declared.kinds.Request.TheVariants as request
 use Rattle.request.specs.declared.kinds.Wanted.{Wanted}
 use Rattle.request.specs.declared.kinds.Wanted.TheVariants as wanted
-use Rattle.request.specs.Admission.{admitted, begun, rows_begun, range_limits, send_begun, recv_begun, read_begun, direct_begun, direct_limits, write_begun, aligned_end, superset_length}
+use Rattle.request.specs.Admission.{admitted, begun, rows_begun, range_limits, send_begun, recv_begun, read_begun, direct_begun, direct_limits, write_begun}
 use Rattle.rows.proofs.CursorLaws.{inside_none}
 use Rattle.rows.specs.Vectors.{range, total, all_within, inside_table, limited}
 use Rattle.runs.specs.Notions.{bytes_wanted, source_bytes, sum, rows_of, first_attempt}
@@ -50,10 +51,8 @@ rows_begin table first count true true e f =
     cond_both (few_bytes (total (range table first count))) (Some (total (range table first count))) None
     (λ o. BegunWell table (source.Rows first count) (rows_begun first count o))
     (λ g.
-    let h = and_parts (leb 2 count) (leb (first + count) (min (length table) 65536)) e in
-    let i = leb-true _ _ h.1 in
-    let j = leb-true _ _ g in
-    let c : range table first count ≡ rows_of table first count = range_is table first count (omega arith) in
+    let i : first + count ≤ 65536 = grind (arith, nat_tests) in
+    let c : range table first count ≡ rows_of table first count = range_is table first count i in
     let s = within_is (range table first count) f in (
       refl,
       record {
@@ -62,7 +61,7 @@ rows_begin table first count true true e f =
         total_is = sum_is (range table first count) ∙ ap sum c;
         stands = inside_none (range table first count) s;
         before_is = refl;
-        small = j;
+        small = leb-true _ _ g;
       },
     ))
     (λ g. tt)
@@ -71,7 +70,7 @@ begins_well : (table : List ChunkRow) (s : Source) → BegunWell table s (begun 
 begins_well table (source.Single place n) =
     cond_both (below_top place n && few_bytes n) (Some (buffers.Single (record { place = place; length = n; done = 0 }))) None
     (BegunWell table (source.Single place n))
-    (λ e. let p = and_parts (below_top place n) (few_bytes n) e in (refl, (leb-true _ _ p.0, leb-true _ _ p.1)))
+    (λ e. (refl, (grind (arith, nat_tests), grind (arith, nat_tests))))
     (λ e. tt)
 begins_well table (source.Rows first count) =
     rows_begin table first count (inside_table (length table) first count) (all_within (range table first count)) refl refl
@@ -81,7 +80,7 @@ begins_well table (source.Rows first count) =
 send_admits : (table : List ChunkRow) (d : ℕ) (s : Source) (b : Bool) (o : Option WriteBuffers) → BegunWell table s o → 0 < source_bytes table s →
     AdmittedWell table (wanted.Send d s) (send_begun d b o)
 send_admits table d s true (Some x) g z =
-    record { n = 0; c = start; request_is = ap (λ y. request.Send (record { descriptor = d; write = y })) g.0; tried_is = refl; placed = g.1; left = z; few = omega arith }
+    record { n = 0; c = start; request_is = ap (λ y. request.Send (record { descriptor = d; write = y })) g.0; tried_is = refl; facts = record { placed = g.1; left = z; few = omega arith } }
 send_admits table d s true None g z = tt
 send_admits table d s false o g z = tt
 
@@ -96,24 +95,18 @@ write_admits table f offset s m cache (Some b) g z =
     cond_both (range_limits offset (write_length b)) (Ok (request.WriteAt (record { file = f; offset = offset; write = b; state = started m; cache = cache }))) (Err LimitBroken)
     (AdmittedWell table (wanted.WriteAt f offset s m cache))
     (λ e.
-    let p = and_parts (few_bytes (write_length b)) (leb (offset + write_length b) 9223372036854775807) e in
+    let i : offset + write_length b ≤ 9223372036854775807 = grind (arith, nat_tests) in
     let l : write_length b ≡ source_bytes table s = ap write_length g.0 ∙ at_length table s 0 start g.1 in
-    let i = leb-true _ _ p.1 in
     let k = small_hint cache in
-    inl (
-      record {
-        n = 0;
-        c = start;
-        cache = cache;
-        request_is = ap (λ y. request.WriteAt (record { file = f; offset = offset; write = y; state = started m; cache = cache })) g.0;
-        tried_is = refl;
-        placed = g.1;
-        left = z;
-        ends = omega (arith, l, i);
-        few = omega (arith, k);
-      },
-      refl,
-    ))
+    inl (record {
+      n = 0;
+      c = start;
+      cache = cache;
+      request_is = ap (λ y. request.WriteAt (record { file = f; offset = offset; write = y; state = started m; cache = cache })) g.0;
+      tried_is = refl;
+      not_yet = refl;
+      facts = record { placed = g.1; left = z; ends = omega arith; few = omega arith };
+    }))
     (λ e. tt)
 
 recv_admits : (table : List ChunkRow) (d : ℕ) (b : Buffer) (n : ℕ) (exact : Bool) → 0 < n → AdmittedWell table (wanted.Recv d b n exact) (recv_begun d b n exact)
@@ -122,12 +115,7 @@ recv_admits table d b n exact z =
     (Ok (request.Recv (record { descriptor = d; buffer = b; length = n; received = 0; exact = exact }))) (Err LimitBroken)
     (AdmittedWell table (wanted.Recv d b n exact))
     (λ e.
-    let p = and_parts (descriptor_limits d) (buffer_limits b && (leb n b.capacity && few_bytes n)) e in
-    let u = and_parts (buffer_limits b) (leb n b.capacity && few_bytes n) p.1 in
-    let v = and_parts (leb n b.capacity) (few_bytes n) u.1 in
-    let x = and_parts (leb b.length b.capacity) (below_top b.place b.capacity) u.0 in
-    let c = leb-true _ _ v.0 in let t = leb-true _ _ x.1 in
-    record { n = 0; request_is = refl; tried_is = refl; left = z; small = leb-true _ _ v.1; inside = omega (arith, c, t); few = omega arith })
+    record { n = 0; request_is = refl; tried_is = refl; facts = record { left = z; small = grind (arith, nat_tests); inside = grind (arith, nat_tests); few = omega arith } })
     (λ e. tt)
 
 read_admits : (table : List ChunkRow) (f : FileId) (offset : ℕ) (b : Buffer) (cache : Cache) → 0 < b.length → AdmittedWell table (wanted.ReadAt f offset b cache) (read_begun f offset b cache)
@@ -136,11 +124,8 @@ read_admits table f offset b cache z =
     (Ok (request.ReadAt (record { file = f; offset = offset; read = 0; buffer = b; cache = cache; direct = None }))) (Err LimitBroken)
     (AdmittedWell table (wanted.ReadAt f offset b cache))
     (λ e.
-    let p = and_parts (buffer_limits b) (range_limits offset b.length) e in
-    let u = and_parts (leb b.length b.capacity) (below_top b.place b.capacity) p.0 in
-    let v = and_parts (few_bytes b.length) (leb (offset + b.length) 9223372036854775807) p.1 in
-    let c = leb-true _ _ u.0 in let t = leb-true _ _ u.1 in let k = small_hint cache in
-    record { n = 0; cache = cache; request_is = refl; tried_is = refl; left = z; small = leb-true _ _ v.0; ends = leb-true _ _ v.1; inside = omega (arith, c, t); few = omega (arith, k) })
+    let k = small_hint cache in
+    record { n = 0; cache = cache; request_is = refl; tried_is = refl; facts = record { left = z; small = grind (arith, nat_tests); ends = grind (arith, nat_tests); inside = grind (arith, nat_tests); few = omega arith } })
     (λ e. tt)
 
 direct_admits : (table : List ChunkRow) (f : FileId) (d offset n place capacity : ℕ) → 0 < n → AdmittedWell table (wanted.DirectReadAt f d offset n place capacity) (direct_begun f d offset n place capacity)
@@ -149,23 +134,19 @@ direct_admits table f d offset n place capacity z =
     (AdmittedWell table (wanted.DirectReadAt f d offset n place capacity))
     (λ e. cond_both (direct_limits offset n place capacity) _ (Err UnfitForDirect) (AdmittedWell table (wanted.DirectReadAt f d offset n place capacity))
     (λ g.
-    let p = and_parts (descriptor_limits d) (below_top place capacity && range_limits offset n) e in
-    let u = and_parts (below_top place capacity) (range_limits offset n) p.1 in
-    let v = and_parts (few_bytes n) (leb (offset + n) 9223372036854775807) u.1 in
-    let a = and_parts (ltb 0 n) (leb (aligned_end offset n) 9223372036854775807 && (eqb (place % 4096) 0 && leb (superset_length offset n) capacity)) g in
-    let b = and_parts (leb (aligned_end offset n) 9223372036854775807) (eqb (place % 4096) 0 && leb (superset_length offset n) capacity) a.1 in
-    let c = and_parts (eqb (place % 4096) 0) (leb (superset_length offset n) capacity) b.1 in
     inl (record {
       n = 0;
       request_is = refl;
       tried_is = refl;
-      left = omega arith;
-      some = z;
-      small = leb-true _ _ v.0;
-      ends = leb-true _ _ v.1;
-      fits = leb-true _ _ c.1;
-      inside = leb-true _ _ u.0;
-      few = omega arith;
+      facts = record {
+        left = omega arith;
+        some = z;
+        small = grind (arith, nat_tests);
+        ends = grind (arith, nat_tests);
+        fits = grind (arith, nat_tests);
+        inside = grind (arith, nat_tests);
+        few = omega arith;
+      };
     }))
     (λ g. tt))
     (λ e. tt)

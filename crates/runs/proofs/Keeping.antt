@@ -1,8 +1,7 @@
 -- Every run of a transfer keeps the laws.
-use Rattle.std.proofs.Common.{◌≡◌, ℕ, ◌<◌, Bool, true, false, cond, ◌||◌, eqb, leb, List, [], ◌∷◌, ◌++◌, ℤ, Some, None, Ok, Err, Option, Result, sym, refl, ◌∙◌, subst, inl, inr, arith}
-use Rattle.std.proofs.lemmas.Bool.{ne_eqb, leb-true}
+use Rattle.std.proofs.Common.{◌≡◌, ℕ, ◌<◌, Bool, true, false, eqb, List, [], ◌∷◌, ◌++◌, ℤ, Some, None, Ok, Option, sym, refl, ◌∙◌, subst, inl, inr, arith}
+use Rattle.std.proofs.lemmas.Bool.{ne_eqb}
 use Rattle.records.specs.declared.buffer.ChunkRow.{ChunkRow}
-use Rattle.records.specs.declared.denial.Denial.{Denial}
 use Rattle.records.specs.declared.waiter.WaiterState.{WaiterState}
 use Rattle.records.specs.declared.outcome.Outcome.{Outcome}
 use Rattle.records.specs.States.{cancel_granted}
@@ -10,22 +9,16 @@ use Rattle.request.specs.declared.kinds.Request.{Request}
 use Rattle.request.specs.declared.kinds.Wanted.{Wanted}
 use Rattle.request.specs.declared.kinds.Wanted.TheVariants as wanted
 use Rattle.request.specs.Progress.{bytes_to_move, bytes_submitted}
-use Rattle.cqe.specs.declared.result.CqeResult.{CqeResult}
-use Rattle.cqe.specs.declared.result.CqeResult.TheVariants.{Retry, Cancelled, Error, Zero, Count}
-use Rattle.cqe.specs.declared.step.Step.{Step}
 use Rattle.cqe.specs.Classes.{classified}
-use Rattle.cqe.specs.Cqe.{is_sync, fits, reacted, read_as, on_cqe}
-use Rattle.cqe.specs.Steps.{settled, settled_outcome}
-use Rattle.sqe.specs.Building.{built}
-use Rattle.runs.specs.Notions.{Event, Event.submitted, Event.completed, Heard, Heard.retry, Heard.failed, Heard.moved, heard, Tried, bytes_wanted, takes, tried, synced, fsync_last, asked_last, cancelled_last}
+use Rattle.cqe.specs.Cqe.{is_sync, on_cqe}
+use Rattle.runs.specs.Notions.{Event, Event.submitted, Event.completed, Heard, heard, Tried, bytes_wanted, takes, tried, synced, fsync_last, asked_last, cancelled_last}
 use Rattle.runs.specs.Laws.{Good, FitsAsked, Lawful, EveryRunIsLawful}
 use Rattle.runs.specs.declared.transfer.Standing.{Standing}
 use Rattle.runs.specs.declared.transfer.Standing.TheVariants.{Queued, InFlight, Ended}
 use Rattle.runs.specs.Runs.{stands, Run, Run.begins, Run.submits, Run.completes}
 use Rattle.runs.proofs.Placing.{at_length}
-use Rattle.runs.proofs.Going.{Going, After, going_within, going_few}
-use Rattle.runs.proofs.ReactingReads.{class_heard}
-use Rattle.runs.proofs.Reacting.{Matches, matches, Completed, read_in}
+use Rattle.runs.proofs.Going.{Going, After, bounded}
+use Rattle.runs.proofs.Reacting.{matches, CompletedWell, read_in}
 use Rattle.runs.proofs.Staging.{BuiltWell, stages}
 use Rattle.runs.proofs.Admitting.{AdmittedWell, admits}
 
@@ -35,8 +28,8 @@ module _ {A : Type 0} (P : A → List A → Type 0) where
   Each h = (later earlier : List A) (e : A) → h ≡ later ++ (e ∷ earlier) → P e earlier
 
   pub each_none : Each []
-  each_none [] earlier e eq = let z : ◌≡◌ {A = ℕ} 0 1 = cc in absurd (omega arith)
-  each_none (x ∷ later) earlier e eq = let z : ◌≡◌ {A = ℕ} 0 1 = cc in absurd (omega arith)
+  each_none [] earlier e eq = cc
+  each_none (x ∷ later) earlier e eq = cc
 
   pub each_more : (e : A) (h : List A) → P e h → Each h → Each (e ∷ h)
   each_more e h p all [] earlier e' eq =
@@ -49,80 +42,19 @@ not_empty : (n : ℕ) → 0 < n → eqb n 0 ≡ false
 not_empty n h = ne_eqb n 0 (λ e. omega arith)
 
 moving : (table : List ChunkRow) (w : Wanted) (q : Request) (t : Tried) (tk : ℕ) (sy : Bool) → 0 < bytes_wanted table w → Going table w q t tk sy → eqb (bytes_to_move q) 0 ≡ false
-moving table (wanted.Send d s) q t tk sy z g = rw (g.request_is, at_length table s g.n g.c g.placed) (not_empty _ z)
+moving table (wanted.Send d s) q t tk sy z g = rw (g.request_is, at_length table s g.n g.c g.facts.placed) (not_empty _ z)
 moving table (wanted.Recv d b m exact) q t tk sy z g = rw g.request_is (not_empty _ z)
 moving table (wanted.ReadAt f offset b cache) q t tk sy z g = rw g.request_is (not_empty _ z)
 moving table (wanted.DirectReadAt f d offset m place capacity) q t tk sy z (inl g) = rw g.request_is (not_empty _ z)
 moving table (wanted.DirectReadAt f d offset m place capacity) q t tk sy z (inr g) = rw g.request_is (not_empty _ z)
-moving table (wanted.WriteAt f offset s m cache) q t tk sy z (inl g) = rw (g.0.request_is, at_length table s g.0.n g.0.c g.0.placed) (not_empty _ z)
-moving table (wanted.WriteAt f offset s m cache) q t tk sy z (inr g) = rw (g.request_is, at_length table s _ g.c g.placed) (not_empty _ z)
+moving table (wanted.WriteAt f offset s m cache) q t tk sy z (inl g) = rw (g.request_is, at_length table s g.n g.c g.facts.placed) (not_empty _ z)
+moving table (wanted.WriteAt f offset s m cache) q t tk sy z (inr g) = rw (g.request_is, at_length table s _ g.c g.facts.placed) (not_empty _ z)
 moving table (wanted.Sync f) q t tk sy z g = absurd (omega arith)
-
--- a granted completion fits its submission
-
-module _ (table : List ChunkRow) (q : Request) where
-  abbrev FitWell : Heard → Result Step Denial → Type 0
-  FitWell e (Err d) = Unit {0}
-  FitWell e (Ok s) = FitsAsked (is_sync q) (bytes_submitted table q) e
-
-  no_bytes : (y : Bool) (n : ℕ) → FitsAsked y n retry
-  no_bytes true n = tt
-  no_bytes false n = tt
-
-  no_count : (y : Bool) (n code : ℕ) → FitsAsked y n (failed code)
-  no_count true n code = tt
-  no_count false n code = tt
-
-  zero_fits : (y : Bool) (n : ℕ) → FitsAsked y n (moved 0)
-  zero_fits true n = tt
-  zero_fits false n = omega arith
-
-  count_fits : (y : Bool) (n k : ℕ) → (y || leb k n) ≡ true → FitsAsked y n (moved k)
-  count_fits true n k e = tt
-  count_fits false n k e = leb-true _ _ e
-
-  class_fits : (k : CqeResult) → fits table q k ≡ true → FitsAsked (is_sync q) (bytes_submitted table q) (class_heard k)
-  class_fits Retry e = no_bytes (is_sync q) _
-  class_fits Cancelled e = no_count (is_sync q) _ 125
-  class_fits (Error code) e = no_count (is_sync q) _ code
-  class_fits Zero e = zero_fits (is_sync q) _
-  class_fits (Count n) e = count_fits (is_sync q) _ n e
-
-  granted_fits : (x b : Bool) (k : CqeResult) (d : Denial) → fits table q k ≡ b → FitWell (class_heard k) (cond b (Ok (settled x (reacted table q k))) (Err d))
-  granted_fits x true k d e = class_fits k e
-  granted_fits x false k d e = tt
-
-  fit_well : (x : Bool) (e : Heard) (o : Option CqeResult) → Matches e o → FitWell e (read_as table q x o)
-  fit_well x e None m = tt
-  fit_well x e (Some k) m = rw m.0 (granted_fits x (fits table q k) k _ refl)
 
 -- what was submitted asked for no less than the request says
 wider : (y z : Bool) (a b : ℕ) (e : Heard) → z ≡ y → (y ≡ false → a ≡ b) → FitsAsked y a e → FitsAsked z b e
-wider true true a b e i j f = tt
-wider true false a b e i j f = let x : ◌≡◌ {A = ℕ} 0 1 = cc in absurd (omega arith)
-wider false true a b e i j f = tt
-wider false false a b retry i j f = tt
-wider false false a b (failed code) i j f = tt
-wider false false a b (moved n) i j f = let k = j refl in omega (arith, k, f)
-
--- after a granted cancel nothing goes on
-
-goes_uncancelled : (x : Bool) (v : Option Outcome) → settled_outcome x v ≡ None → x ≡ false
-goes_uncancelled true None e = cc
-goes_uncancelled false None e = refl
-goes_uncancelled x (Some o) e = cc
-
-abbrev CancelWell : Bool → Result Step Denial → Type 0
-CancelWell x (Err d) = Unit {0}
-CancelWell x (Ok s) = s.outcome ≡ None → x ≡ false
-
-granted_cancels : (table : List ChunkRow) (q : Request) (x b : Bool) (k : CqeResult) (d : Denial) → CancelWell x (cond b (Ok (settled x (reacted table q k))) (Err d))
-granted_cancels table q x true k d = λ e. goes_uncancelled x (reacted table q k).outcome e
-granted_cancels table q x false k d = tt
-
-cancel_well : (table : List ChunkRow) (q : Request) (x : Bool) (o : Option CqeResult) → CancelWell x (read_as table q x o)
-cancel_well table q x None = tt
-cancel_well table q x (Some k) = granted_cancels table q x (fits table q k) k _
+wider true z a b e i j f = rw i tt
+wider false z a b e i j f = rw (i, ← j refl) f
 
 -- a run
 
@@ -144,18 +76,11 @@ pub record Kept (table : List ChunkRow) (w : Wanted) (p : Standing) (h : List Ev
   pub inv : Inv table w p h
   pub each : Each (Good table w) h
 
-completes_well : (table : List ChunkRow) (w : Wanted) (q : Request) (state : WaiterState) (r : ℤ) (h : List Event) → 0 < bytes_wanted table w → Inv table w (InFlight q) h →
-    Completed table w (cancel_granted state) (tried w (completed (cancel_granted state) r ∷ h)) (takes (completed (cancel_granted state) r ∷ h)) (synced (completed (cancel_granted state) r ∷ h)) (on_cqe table q state r)
-    × FitWell table q (heard r) (on_cqe table q state r)
-    × CancelWell (cancel_granted state) (on_cqe table q state r)
-completes_well table w q state r h z i =
-    let e = moving table w q (tried w h) (takes h) (synced h) z i.0 in
+completes_well : (table : List ChunkRow) (w : Wanted) (q : Request) (state : WaiterState) (r : ℤ) (h : List Event) → 0 < bytes_wanted table w → Going table w q (tried w h) (takes h) (synced h) →
+    CompletedWell table w q (cancel_granted state) (heard r) (tried w h) (takes h) (synced h) (on_cqe table q state r)
+completes_well table w q state r h z g =
     let x = cancel_granted state in
-    rw (e, i.1) (
-      read_in table w q (tried w h) (takes h) (synced h) x (heard r) (classified r x false) (matches r x) z i.0,
-      fit_well table q x (heard r) (classified r x false) (matches r x),
-      cancel_well table q x (classified r x false),
-    )
+    rw (moving table w q (tried w h) (takes h) (synced h) z g) (read_in table w q (tried w h) (takes h) (synced h) x (heard r) (classified r x false) (matches r x) z g)
 
 pub kept : {table : List ChunkRow} {w : Wanted} {p : Standing} {h : List Event} → Run table w p h → 0 < bytes_wanted table w → Kept table w p h
 kept {table} {w} (begins p q e i) z =
@@ -164,34 +89,27 @@ kept {table} {w} (begins p q e i) z =
 kept {table} {w} (submits p q g list after s h run b a i) z =
     let k = kept run z in
     let c : BuiltWell table w (tried w h) (takes h) (synced h) (Ok s) after =
-    subst (λ r. BuiltWell table w (tried w h) (takes h) (synced h) r after) b
-    (subst (λ l. BuiltWell table w (tried w h) (takes h) (synced h) (built table q g list) l) (sym a)
-    (stages table w q (tried w h) (takes h) (synced h) g list z k.inv.0)) in
+    subst (λ r. BuiltWell table w (tried w h) (takes h) (synced h) r after) b (rw a (stages table w q (tried w h) (takes h) (synced h) g list z k.inv.0)) in
     rw i (record {
       inv = (c.0, c.1, c.2);
       each = each_more (Good table w) (submitted s.submission after) h (c.3, k.inv.1) k.each;
     })
 kept {table} {w} (completes p q state r s h run b i) z =
     let k = kept run z in
-    let c = completes_well table w q state r h z k.inv in
-    let a = subst (Completed table w (cancel_granted state) _ _ _) b c.0 in
-    let f = subst (FitWell table q (heard r)) b c.1 in
-    let x = subst (CancelWell (cancel_granted state)) b c.2 in
+    let c = subst (CompletedWell table w q (cancel_granted state) (heard r) (tried w h) (takes h) (synced h)) b (completes_well table w q state r h z k.inv.0) in
     rw i (record {
-      inv = completing table w s.outcome s.request (cancel_granted state) r h a x;
-      each = each_more (Good table w) (completed (cancel_granted state) r) h (wider (is_sync q) (fsync_last h) _ _ (heard r) k.inv.1 k.inv.2 f) k.each;
+      inv = completing table w s.outcome s.request (cancel_granted state) r h (rw k.inv.1 c.0) c.2;
+      each = each_more (Good table w) (completed (cancel_granted state) r) h (wider (is_sync q) (fsync_last h) _ _ (heard r) k.inv.1 k.inv.2 c.1) k.each;
     })
 
 pub every_run : EveryRunIsLawful
 every_run table w p h run z = conclude p (kept run z)
   where
     conclude : (p : Standing) → Kept table w p h → Lawful table w p h
-    conclude (Queued q) k = record { within = going_within table w q _ _ _ k.inv.0; each = k.each; bound = going_few table w q _ _ _ z k.inv.0; asked = tt; ending = tt }
-    conclude (InFlight q) k = record {
-      within = going_within table w q _ _ _ k.inv.0;
-      each = k.each;
-      bound = going_few table w q _ _ _ z k.inv.0;
-      asked = λ e. k.inv.2 (sym k.inv.1 ∙ e);
-      ending = tt;
-    }
+    conclude (Queued q) k =
+        let b = bounded table w q _ _ _ z k.inv.0 in
+        record { within = b.within; each = k.each; bound = omega (arith, b.few); asked = tt; ending = tt }
+    conclude (InFlight q) k =
+        let b = bounded table w q _ _ _ z k.inv.0 in
+        record { within = b.within; each = k.each; bound = omega (arith, b.few); asked = λ e. k.inv.2 (sym k.inv.1 ∙ e); ending = tt }
     conclude (Ended q o) k = record { within = k.inv.1; each = k.each; bound = k.inv.0; asked = tt; ending = k.inv.2 }

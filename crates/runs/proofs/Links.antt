@@ -1,9 +1,9 @@
 -- The laws' words for rows and the calls' words for them.
-use Rattle.std.proofs.Common.{◌≡◌, ℕ, zero, suc, ◌+◌, ◌-◌, ◌≤◌, true, ◌&&◌, leb, List, [], ◌∷◌, take, drop, refl, ap, arith}
-use Rattle.std.proofs.lemmas.Bool.{leb-true, and_parts}
+use Rattle.std.proofs.Common.{◌≡◌, ℕ, ◌+◌, ◌-◌, ◌≤◌, true, List, [], ◌∷◌, drop, refl, ap, arith}
+use Rattle.std.proofs.lemmas.Bool.{and_parts}
+use Rattle.std.proofs.lemmas.Bool.Decides.{nat_tests}
 use Rattle.std.proofs.lemmas.List.{take-take, drop-take}
 use Rattle.records.specs.Limits.{row_limits}
-use Rattle.records.specs.Sums.{plus}
 use Rattle.records.specs.declared.buffer.ChunkRow.{ChunkRow}
 use Rattle.records.specs.declared.buffer.Iovec.{Iovec}
 use Rattle.rows.specs.Laws.{Sound}
@@ -29,8 +29,4 @@ sizes_is (v ∷ vs) = ap (λ n. v.length + n) (sizes_is vs)
 pub within_is : (xs : List ChunkRow) → all_within xs ≡ true → Sound xs
 unfolding all_within
 within_is [] e = tt
-within_is (x ∷ xs) e =
-    let a = and_parts (row_limits x) (all_within xs) e in
-    let b = and_parts (leb 1 x.length) (leb x.length 1073741824 && leb (x.place + x.length) 140737488355328) a.0 in
-    let d = and_parts (leb x.length 1073741824) (leb (x.place + x.length) 140737488355328) b.1 in
-    (leb-true _ _ b.0, leb-true _ _ d.1, within_is xs a.1)
+within_is (x ∷ xs) e = (grind (arith, nat_tests), grind (arith, nat_tests), within_is xs (and_parts (row_limits x) (all_within xs) e).1)

@@ -42,19 +42,6 @@ at_done table (source.Rows first count) n c = refl
 pub at_left : (table : List ChunkRow) (s : Source) (n : ℕ) (c : Cursor) → Placed table s n c → write_left (write_at table s n c) ≡ source_bytes table s - n
 at_left table s n c p = let a = at_length table s n c p in let b = at_done table s n c in omega (arith, a, b)
 
-pub at_small : (table : List ChunkRow) (s : Source) (n : ℕ) (c : Cursor) → Placed table s n c → source_bytes table s ≤ 1099511627776
-at_small table (source.Single place m) n c p = p.1
-at_small table (source.Rows first count) n c p = let a = p.total_is in let b = p.small in omega (arith, a, b)
-
--- a submission asks for no more than is left
-pub at_submits : (table : List ChunkRow) (s : Source) (n : ℕ) (c : Cursor) → Placed table s n c → n ≤ source_bytes table s →
-    n + write_submitted table (write_at table s n c) ≤ source_bytes table s
-at_submits table (source.Single place m) n c p h = omega arith
-at_submits table (source.Rows first count) n c p h =
-    let a = cursor_laws.within table first count c p.sound p.stands in
-    let b = p.before_is in let d = p.total_is in
-    omega (arith, a, b, d)
-
 pub record Moved (table : List ChunkRow) (s : Source) (n m : ℕ) (c : Cursor) : Type 0 where
   pub cursor : Cursor
   pub is : write_moved table (write_at table s n c) m ≡ write_at table s (n + m) cursor

@@ -3,7 +3,6 @@ use Rattle.std.proofs.Common.{◌≡◌, List, ℤ, Ok, Err, Result, refl}
 use Rattle.records.specs.declared.buffer.ChunkRow.{ChunkRow}
 use Rattle.records.specs.declared.buffer.Iovec.{Iovec}
 use Rattle.records.specs.declared.denial.Denial.{Denial}
-use Rattle.records.specs.declared.submission.Submission.{Submission}
 use Rattle.records.specs.declared.waiter.WaiterState.{WaiterState}
 use Rattle.request.specs.declared.kinds.Request.{Request}
 use Rattle.request.specs.declared.kinds.Wanted.{Wanted}
@@ -15,7 +14,6 @@ use Rattle.sqe.specs.declared.Staged.{Staged}
 use Rattle.sqe.specs.Building.{built, built_list}
 use Rattle.runs.specs.declared.transfer.Standing.{Standing}
 use Rattle.runs.specs.declared.transfer.Standing.TheVariants.{Queued, InFlight, Ended}
-use Rattle.runs.specs.declared.transfer.Transfer.{Transfer}
 use Rattle.runs.specs.Calls.{begin_answer, begun_as, submit_answer, submit_after, submit_list, submission_of, flown, complete_answer, complete_after, landed}
 use Rattle.runs.specs.Recorded.{BeginRecorded, SubmitRecorded, CompleteRecorded}
 use Rattle.runs.specs.Runs.{stands, Run.begins, Run.submits, Run.completes}
