@@ -24,7 +24,7 @@ pub fn fill<X: Copy>(xs: &mut [X], x: X)
     }
 }
 
-// The length is a parameter beside the slice, and both stay functions over slices of any element: the memory is lent (docs/DECISIONS.md).
+// `append` and `find` stay functions over slices of any element: a rule of this project (docs/DECISIONS.md).
 
 /// One element more behind the first ones: how many there are then, or none where every place is taken.
 // The length stands beside lent places: no heap, the memory is the caller's.
