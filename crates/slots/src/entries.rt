@@ -78,6 +78,7 @@ impl<'a, T: Copy> Slab<'a, T> {
             self.used = self.used.saturating_add(1);
             return;
         };
+        // By its index: a borrow from `get` beside the write to a field gets no proof.
         let index = index as usize;
         if index < self.slots.len() {
             self.free = self.slots[index].next;
