@@ -123,14 +123,14 @@ module _ (f : FileId) (offset place capacity m past : ℕ) where
 pub read_plainly : (table : List ChunkRow) (f : FileId) (offset : ℕ) (b : Buffer) (cache : Cache) (v : Option Outcome) (q : Request) (t : Tried) (tk : ℕ) (sy : Bool) →
     AfterReading f offset b.place b.capacity b.length 0 v q t tk → After table (wanted.ReadAt f offset b cache) v q t tk sy
 read_plainly table f offset b cache None q t tk sy a = a
-read_plainly table f offset b cache (Some o) q (plainly x) tk sy a = let u = a.0 in (omega (arith, u), a.1.0, (a.1.1, a.1.2))
+read_plainly table f offset b cache (Some o) q (plainly x) tk sy a = (omega arith, a.1.0, (a.1.1, a.1.2))
 read_plainly table f offset b cache (Some o) q (directly x) tk sy a = absurd a.1
 
 pub read_after_direct : (table : List ChunkRow) (f : FileId) (d offset m place capacity : ℕ) (v : Option Outcome) (q : Request) (t : Tried) (tk : ℕ) (sy : Bool) →
     AfterReading f offset (place + offset % 4096) (capacity - offset % 4096) m (1 + (offset % 4096 + m - 1) / 4096) v q t tk →
     After table (wanted.DirectReadAt f d offset m place capacity) v q t tk sy
 read_after_direct table f d offset m place capacity None q t tk sy a = inr a
-read_after_direct table f d offset m place capacity (Some o) q (plainly x) tk sy a = let u = a.0 in (omega (arith, u), a.1.0, (a.1.1, a.1.2))
+read_after_direct table f d offset m place capacity (Some o) q (plainly x) tk sy a = (omega arith, a.1.0, (a.1.1, a.1.2))
 read_after_direct table f d offset m place capacity (Some o) q (directly x) tk sy a = absurd a.1
 
 -- direct reads
