@@ -216,4 +216,4 @@ ends_badly table w o q t tk sy e z g =
 -- what ends where it would go on
 pub stopping : (table : List ChunkRow) (w : Wanted) (o : Outcome) (q : Request) (t : Tried) (tk : ℕ) (sy : Bool) → ended_well o ≡ false → 0 < bytes_wanted table w →
     Going table w q t tk sy → After table w (Some o) q t tk sy
-stopping table w o q t tk sy e z g = let a = ends_badly table w o q t tk sy e z g in (omega (arith, a.0), a.1, a.2)
+stopping table w o q t tk sy e z g = let a = ends_badly table w o q t tk sy e z g in (omega arith, a.1, a.2)

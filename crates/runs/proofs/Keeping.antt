@@ -108,8 +108,8 @@ every_run table w p h run z = conclude p (kept run z)
     conclude : (p : Standing) → Kept table w p h → Lawful table w p h
     conclude (Queued q) k =
         let b = bounded table w q _ _ _ z k.inv.0 in
-        record { within = b.within; each = k.each; bound = omega (arith, b.few); asked = tt; ending = tt }
+        record { within = b.within; each = k.each; bound = omega arith; asked = tt; ending = tt }
     conclude (InFlight q) k =
         let b = bounded table w q _ _ _ z k.inv.0 in
-        record { within = b.within; each = k.each; bound = omega (arith, b.few); asked = λ e. k.inv.2 (sym k.inv.1 ∙ e); ending = tt }
+        record { within = b.within; each = k.each; bound = omega arith; asked = λ e. k.inv.2 (sym k.inv.1 ∙ e); ending = tt }
     conclude (Ended q o) k = record { within = k.inv.1; each = k.each; bound = k.inv.0; asked = tt; ending = k.inv.2 }

@@ -40,7 +40,7 @@ at_done table (source.Single place m) n c = refl
 at_done table (source.Rows first count) n c = refl
 
 pub at_left : (table : List ChunkRow) (s : Source) (n : ℕ) (c : Cursor) → Placed table s n c → write_left (write_at table s n c) ≡ source_bytes table s - n
-at_left table s n c p = let a = at_length table s n c p in let b = at_done table s n c in omega (arith, a, b)
+at_left table s n c p = omega (arith, at_length table s n c p, at_done table s n c)
 
 pub record Moved (table : List ChunkRow) (s : Source) (n m : ℕ) (c : Cursor) : Type 0 where
   pub cursor : Cursor
@@ -56,10 +56,9 @@ at_moves table (source.Single place k) n m c p h f =
     record { cursor = c; is = rw e; placed = p; inside = omega arith }
 at_moves table (source.Rows first count) n m c p h f =
     let a = cursor_laws.within table first count c p.sound p.stands in
-    let b = p.before_is in let d = p.total_is in let z = p.small in
-    let i : n + m ≤ total (range table first count) = omega (arith, a, b, d, f) in
-    let e : plus n m ≡ n + m = omega (arith, i, z) in
-    let v = cursor_laws.moves table first count c m p.sound p.stands (omega (arith, i, b)) in
+    let i : n + m ≤ total (range table first count) = omega arith in
+    let e : plus n m ≡ n + m = omega arith in
+    let v = cursor_laws.moves table first count c m p.sound p.stands (omega arith) in
     record {
       cursor = advanced table first count c m;
       is = rw e;
@@ -68,8 +67,8 @@ at_moves table (source.Rows first count) n m c p h f =
         cut = p.cut;
         total_is = p.total_is;
         stands = cursor_laws.stands table first count c m p.sound p.stands;
-        before_is = omega (arith, v, b);
+        before_is = omega arith;
         small = p.small;
       };
-      inside = omega (arith, i, d);
+      inside = omega arith;
     }

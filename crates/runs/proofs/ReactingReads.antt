@@ -123,35 +123,35 @@ module _ (f : FileId) (offset place capacity m past : ℕ) where
 pub read_plainly : (table : List ChunkRow) (f : FileId) (offset : ℕ) (b : Buffer) (cache : Cache) (v : Option Outcome) (q : Request) (t : Tried) (tk : ℕ) (sy : Bool) →
     AfterReading f offset b.place b.capacity b.length 0 v q t tk → After table (wanted.ReadAt f offset b cache) v q t tk sy
 read_plainly table f offset b cache None q t tk sy a = a
-read_plainly table f offset b cache (Some o) q (plainly x) tk sy a = let u = a.0 in (omega (arith, u), a.1.0, (a.1.1, a.1.2))
+read_plainly table f offset b cache (Some o) q (plainly x) tk sy a = (omega arith, a.1.0, (a.1.1, a.1.2))
 read_plainly table f offset b cache (Some o) q (directly x) tk sy a = absurd a.1
 
 pub read_after_direct : (table : List ChunkRow) (f : FileId) (d offset m place capacity : ℕ) (v : Option Outcome) (q : Request) (t : Tried) (tk : ℕ) (sy : Bool) →
     AfterReading f offset (place + offset % 4096) (capacity - offset % 4096) m (1 + (offset % 4096 + m - 1) / 4096) v q t tk →
     After table (wanted.DirectReadAt f d offset m place capacity) v q t tk sy
 read_after_direct table f d offset m place capacity None q t tk sy a = inr a
-read_after_direct table f d offset m place capacity (Some o) q (plainly x) tk sy a = let u = a.0 in (omega (arith, u), a.1.0, (a.1.1, a.1.2))
+read_after_direct table f d offset m place capacity (Some o) q (plainly x) tk sy a = (omega arith, a.1.0, (a.1.1, a.1.2))
 read_after_direct table f d offset m place capacity (Some o) q (directly x) tk sy a = absurd a.1
 
 -- direct reads
 
 module _ (table : List ChunkRow) (f : FileId) (d offset m place capacity : ℕ) (sy : Bool) where
-  abbrev part : Direct
-  part = record { descriptor = d; skip = offset % 4096; length = m }
+  abbrev direct_part : Direct
+  direct_part = record { descriptor = d; skip = offset % 4096; length = m }
 
-  abbrev from : ℕ → ReadAtRequest
-  from n = directing f d offset m place capacity n
+  abbrev direct_at : ℕ → ReadAtRequest
+  direct_at n = directing f d offset m place capacity n
 
   abbrev Leaves : Step → Tried → ℕ → Type 0
   Leaves z t tk = After table (wanted.DirectReadAt f d offset m place capacity) z.outcome z.request t tk sy
 
-  direct_on : (n tk : ℕ) → DirectFacts offset m place capacity n tk → Leaves (goes_on (request.ReadAt (from n))) (directly n) tk
+  direct_on : (n tk : ℕ) → DirectFacts offset m place capacity n tk → Leaves (goes_on (request.ReadAt (direct_at n))) (directly n) tk
   direct_on n tk a = inl (record { n = n; request_is = refl; tried_is = refl; facts = a })
 
-  direct_fails : (n tk : ℕ) → DirectFacts offset m place capacity n tk → Leaves (ends (request.ReadAt (from n)) outcome.ReadFailed) (directly n) (1 + tk)
-  direct_fails n tk a = ends_badly table (wanted.DirectReadAt f d offset m place capacity) outcome.ReadFailed (request.ReadAt (from n)) (directly n) tk sy refl a.some (direct_on n tk a)
+  direct_fails : (n tk : ℕ) → DirectFacts offset m place capacity n tk → Leaves (ends (request.ReadAt (direct_at n)) outcome.ReadFailed) (directly n) (1 + tk)
+  direct_fails n tk a = ends_badly table (wanted.DirectReadAt f d offset m place capacity) outcome.ReadFailed (request.ReadAt (direct_at n)) (directly n) tk sy refl a.some (direct_on n tk a)
 
-  direct_given_up : (n tk : ℕ) → DirectFacts offset m place capacity n tk → Leaves (goes_on (request.ReadAt (given_up (from n) part))) (plainly 0) (1 + tk)
+  direct_given_up : (n tk : ℕ) → DirectFacts offset m place capacity n tk → Leaves (goes_on (request.ReadAt (given_up (direct_at n) direct_part))) (plainly 0) (1 + tk)
   direct_given_up n tk a =
       let x : plus (offset - offset % 4096) (offset % 4096) ≡ offset = omega arith in
       let y : plus place (offset % 4096) ≡ place + offset % 4096 = omega arith in
@@ -165,7 +165,7 @@ module _ (table : List ChunkRow) (f : FileId) (d offset m place capacity : ℕ) 
 
   direct_counts : (covers whole : Bool) (n tk k : ℕ) (x : ReadAtRequest) → 0 < k → k ≤ min ((offset % 4096 + m + 4095) / 4096 * 4096 - n) 2147479552 →
       leb (offset % 4096 + m) (n + k) ≡ covers → eqb (k % 4096) 0 ≡ whole → DirectFacts offset m place capacity n tk →
-      Leaves (cond covers (ends (request.ReadAt x) outcome.Ok) (cond whole (goes_on (request.ReadAt (from (n + k)))) (goes_on (request.ReadAt (given_up (from n) part)))))
+      Leaves (cond covers (ends (request.ReadAt x) outcome.Ok) (cond whole (goes_on (request.ReadAt (direct_at (n + k)))) (goes_on (request.ReadAt (given_up (direct_at n) direct_part)))))
       (counted_directly covers whole (n + k)) (1 + tk)
   direct_counts true whole n tk k x p g c v a = let h = leb-true _ _ c in (omega arith, omega arith, ((λ o. h), (λ o. refl)))
   direct_counts false true n tk k x p g c v a =
@@ -174,12 +174,12 @@ module _ (table : List ChunkRow) (f : FileId) (d offset m place capacity : ℕ) 
   direct_counts false false n tk k x p g c v a = direct_given_up n tk a
 
   direct_errs : (b : Bool) (n tk : ℕ) → DirectFacts offset m place capacity n tk →
-      Leaves (cond b (ends (request.ReadAt (from n)) outcome.ReadFailed) (goes_on (request.ReadAt (given_up (from n) part)))) (cond b (directly n) (plainly 0)) (1 + tk)
+      Leaves (cond b (ends (request.ReadAt (direct_at n)) outcome.ReadFailed) (goes_on (request.ReadAt (given_up (direct_at n) direct_part)))) (cond b (directly n) (plainly 0)) (1 + tk)
   direct_errs true n tk a = direct_fails n tk a
   direct_errs false n tk a = direct_given_up n tk a
 
-  pub direct_reacts : (n tk : ℕ) (k : CqeResult) → Proper k → fits table (request.ReadAt (from n)) k ≡ true → DirectFacts offset m place capacity n tk →
-      Leaves (direct_step (from n) part k) (reports (lead offset + m) (directly n) (class_heard k)) (besides_retry (class_heard k) + tk)
+  pub direct_reacts : (n tk : ℕ) (k : CqeResult) → Proper k → fits table (request.ReadAt (direct_at n)) k ≡ true → DirectFacts offset m place capacity n tk →
+      Leaves (direct_step (direct_at n) direct_part k) (reports (lead offset + m) (directly n) (class_heard k)) (besides_retry (class_heard k) + tk)
   direct_reacts n tk Retry p g a = rw zero-add (direct_on n tk a)
   direct_reacts n tk Cancelled p g a = direct_fails n tk a
   direct_reacts n tk (Error code) p g a = direct_errs (eqb code 125) n tk a
