@@ -9,6 +9,8 @@ use crate::writes::{send_cqe, sync_cqe, write_cqe};
 use records::{ChunkRow, Denial, WaiterState, WriteAtState};
 use request::Request;
 
+// The table is no part of a request: it stands beside it, as beside all that looks at rows.
+
 // Whether the next submission is a data sync.
 pub(crate) fn is_sync(request: Request) -> bool
     ensures { result ≡ is_sync request }

@@ -21,7 +21,7 @@ pub(crate) fn move_on(table: &[ChunkRow], write: WriteBuffers, bytes: u32) -> Wr
             })
         }
         WriteBuffers::Rows(rows) => WriteBuffers::Rows(RowsWrite {
-            cursor: Rows::new(table, rows.first, rows.count).advance(rows.cursor, bytes as u64),
+            cursor: Rows::of(table, rows).advance(rows.cursor, bytes as u64),
             done: rows.done.saturating_add(bytes as u64),
             ..rows
         }),

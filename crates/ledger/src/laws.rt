@@ -1,4 +1,4 @@
-//! What holds of every ledger.
+//! What holds of every ledger. A law is the clause of a function of its own, whose number says nothing.
 ghost use Rattle.std.specs.Prelude.{[], ◌∷◌};
 ghost use Rattle.ledger.specs.Laws.{LedgerLaws, Told};
 ghost use Rattle.ledger.specs.Notions.{Telling.refreshed, Telling.wrote, Telling.sync_ended, Telling.sync_failed};

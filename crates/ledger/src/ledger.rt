@@ -3,19 +3,22 @@ ghost use Rattle.std.specs.Prelude.{◌≡◌, ℕ, List, length};
 ghost use Rattle.ledger.specs.declared.row.Row.{Row};
 ghost use Rattle.ledger.specs.Meaning.{on_row, completed_at, taint_at, sync_wanted_at, fresh_row, wrote_row, write_answer, ended_row, sync_answer, failed_row};
 
+use crate::tally::Tally;
 use records::{Outcome, WriteAtState};
 
 /// Rows of files, by number. No call refuses; a row that the ledger lacks reads as fresh.
 pub trait Ledger {
+    /// What is kept of each file.
+    type Kept: Tally;
+
     /// The most that the completed writes of a row can reach.
-    const MOST: u64;
+    const MOST: u64 = <Self::Kept as Tally>::MOST;
 
     ghost rows: { Self → List Row };
 
     ghost peak: { ℕ };
 
-    /// The constant, as contracts name it. In an impl that has a lifetime the check states no ghost member beside a
-    /// constant under its own name.
+    /// The same, as contracts name it: an impl with a lifetime cannot have a ghost member by the constant's own name.
     fn limit() -> u64
         ensures { result ≡ peak };
 

@@ -55,13 +55,12 @@ impl<'a, T: Tally> LentLedger<'a, T> {
 }
 
 impl<'a, T: Tally> Ledger for LentLedger<'a, T> {
-    const MOST: u64 = T::MOST;
+    type Kept = T;
 
     ghost rows = { λ ledger. ledger };
 
     ghost peak = { T.MOST };
 
-    // `Self::MOST`, of which the check knows no value here: it does not compute a constant of every `T`.
     fn limit() -> u64 {
         T::MOST
     }
@@ -95,14 +94,14 @@ impl<'a, T: Tally> Ledger for LentLedger<'a, T> {
 
     fn end_sync(&mut self, row: usize, seen: u64) -> Outcome {
         let mut tally = self.at(row);
-        let answer = tally.ended(seen);
+        let answer = tally.end_sync(seen);
         self.keep(row, tally);
         answer
     }
 
     fn sync_failed(&mut self, row: usize, res: Outcome) {
         let mut tally = self.at(row);
-        tally.failed(res);
+        tally.note_result(res);
         self.keep(row, tally);
     }
 }

@@ -39,8 +39,8 @@ pub trait Tally: Copy {
     fn cover(&mut self, seen: u64)
         ensures { kept_row self.new ≡ ended_by None seen (kept_row self.old) };
 
-    /// A sync ended with this result: only the device's error taints.
-    fn failed(&mut self, res: Outcome)
+    /// Notes a result that was to be durable: only the device's error taints.
+    fn note_result(&mut self, res: Outcome)
         ensures { kept_row self.new ≡ failed_row res (kept_row self.old) }
     {
         if let Outcome::Io { .. } = res {
@@ -54,7 +54,7 @@ pub trait Tally: Copy {
     {
         match state {
             WriteAtState::Writing | WriteAtState::WritingBeforeSync => {}
-            WriteAtState::WritingSync | WriteAtState::Syncing => self.failed(res),
+            WriteAtState::WritingSync | WriteAtState::Syncing => self.note_result(res),
         }
     }
 
@@ -89,7 +89,7 @@ pub trait Tally: Copy {
     }
 
     /// A sync succeeded that began when `seen` writes had completed.
-    fn ended(&mut self, seen: u64) -> Outcome
+    fn end_sync(&mut self, seen: u64) -> Outcome
         ensures answer { result ≡ sync_answer (kept_row self.old).taint }
         ensures after { kept_row self.new ≡ ended_row seen (kept_row self.old) }
     {

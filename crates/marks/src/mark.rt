@@ -1,10 +1,11 @@
 //! A row of marks, one for each write that can be counted.
 ghost use Rattle.std.specs.Prelude.{◌≡◌, ◌-◌, None, position};
+ghost use Rattle.std.proofs.Common.{rules};
 ghost use Rattle.ledger.specs.Meaning.{fresh_row, first_error, tainted_row, counted, covers_now, ended_by};
 ghost use Rattle.marks.specs.Marking.{completed_marks, covered_marks, is_unused, opened_at, covered_mark, left_after, cover_first, covered_row, seen_row, fresh_marks};
 
 use ledger::{LentLedger, Row, Tally};
-use records::Outcome;
+use records::{Outcome, Same};
 
 /// One write that a row can count.
 #[derive(Clone, Copy, PartialEq, Eq)]
@@ -13,6 +14,10 @@ pub enum Mark {
     /// Completed, and not covered by a sync.
     Open,
     Covered,
+}
+
+impl Same for Mark {
+    ghost identical = { Prim.search rules };
 }
 
 /// The marks of one file; the oldest write has the first.
@@ -96,6 +101,7 @@ impl Tally for MarkRow {
         }
     }
 
+    // This and the next are as of `Row`: a field each, which a third type would not hold more plainly.
     fn taint(&self) -> Option<Outcome> {
         self.taint
     }

@@ -62,7 +62,7 @@ fn play_iovecs(rt: &HostRuntime) -> io::Result<()> {
     show_sizes(rt, "then", &list)?;
     show_place(rt, "find 8192 100", list.find(REST))?;
     match list.get(1) {
-        Some(iovec) => println!(rt; "get 1: {} {}", iovec.base, iovec.length),
+        Some(iovec) => println!(rt; "get 1: {iovec}"),
         None => println!(rt; "get 1: none"),
     }
 }

@@ -2,6 +2,7 @@
 use Rattle.std.specs.Prelude.{ℕ, List, ◌++◌, Some, None, codes}
 use Rattle.std.specs.Fmt.{decimal}
 use Rattle.records.specs.declared.buffer.Buffer.{Buffer}
+use Rattle.records.specs.declared.buffer.Iovec.{Iovec}
 use Rattle.records.specs.declared.denial.Denial.{Denial}
 use Rattle.records.specs.declared.denial.Denial.TheVariants.{FileNotLive, LimitBroken, UnfitForDirect, WrongObserver, NoFreeSlot, NoSuchWaiter, InFlight, CancelGranted, SettledOtherwise, PermitConflict, UnknownToken, CompletionMisfit, FileInUse, ListTooShort}
 use Rattle.records.specs.declared.id.Id.{Id}
@@ -14,6 +15,7 @@ use Rattle.records.specs.declared.output.RequestOutput.{RequestOutput}
 use Rattle.records.specs.declared.output.RequestOutput.TheVariants as output
 use Rattle.records.specs.declared.output.RetiredResources.{RetiredResources}
 use Rattle.records.specs.declared.output.RetiredResources.TheVariants as retired
+use Rattle.records.specs.declared.submission.Submission.{Submission}
 use Rattle.records.specs.declared.write.WriteBuffers.{WriteBuffers}
 use Rattle.records.specs.declared.write.WriteBuffers.TheVariants.{Single, Rows}
 
@@ -58,6 +60,9 @@ state_text state.Syncing = codes "syncing"
 abbrev pub buffer_text : Buffer → List ℕ
 buffer_text b = told (codes "buffer place ") b.place ++ (told (codes " capacity ") b.capacity ++ told (codes " length ") b.length)
 
+abbrev pub iovec_text : Iovec → List ℕ
+iovec_text v = decimal v.base ++ told (codes " ") v.length
+
 abbrev pub id_text : Id → List ℕ
 id_text id = decimal id.index ++ told (codes " ") id.generation
 
@@ -83,3 +88,8 @@ resources_text (retired.Socket d) = told (codes "socket ") d
 resources_text (retired.Send d w) = told (codes "socket ") d ++ (codes ", " ++ write_text w)
 resources_text (retired.File f (Some w)) = file_text f ++ (codes ", " ++ write_text w)
 resources_text (retired.File f None) = file_text f
+
+abbrev pub submission_text : Submission → List ℕ
+submission_text s = told (codes "opcode ") s.opcode ++ (told (codes " descriptor ") s.descriptor
+    ++ (told (codes " offset ") s.offset ++ (told (codes " place ") s.place
+    ++ (told (codes " length ") s.length ++ (told (codes " flags ") s.flags ++ told (codes " token ") s.token)))))

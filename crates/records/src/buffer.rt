@@ -1,7 +1,7 @@
 //! Memory that a request names, and the limits of a place.
 ghost use Rattle.std.specs.Prelude.{◌≡◌, Some};
 ghost use Rattle.records.specs.Limits.{below_top, few_bytes, buffer_limits, row_limits, descriptor_limits};
-ghost use Rattle.records.specs.Words.{buffer_text};
+ghost use Rattle.records.specs.Words.{buffer_text, iovec_text};
 
 use std::fmt;
 
@@ -21,6 +21,7 @@ pub struct ChunkRow {
 }
 
 /// One element of a vectored submission's list, as the kernel reads it.
+// Of one shape with a chunk row, and a type of its own: a row is the table's, an iovec the kernel's.
 #[derive(Clone, Copy, PartialEq, Eq)]
 pub struct Iovec {
     pub base: u64,
@@ -71,6 +72,14 @@ impl fmt::Display for Buffer {
             f,
             "buffer place {place} capacity {capacity} length {length}"
         )
+    }
+}
+
+impl fmt::Display for Iovec {
+    ghost output = { λ iovec. Some (iovec_text iovec) };
+
+    fn fmt<W: fmt::Write>(&self, f: &mut fmt::Formatter<W>) -> fmt::Result {
+        write!(f, "{} {}", self.base, self.length)
     }
 }
 

@@ -26,8 +26,8 @@ pub enum Denial {
     ListTooShort { needed: u32 },
 }
 
+// Each call says one thing of a refusal and loses the rest, which `From` could not say.
 impl Denial {
-    // Not `From`: the number alone loses the value beside it.
     pub fn number(self) -> u32
         ensures { result ≡ denial_number self }
     {

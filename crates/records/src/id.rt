@@ -12,6 +12,8 @@ pub struct Id {
     pub generation: u64,
 }
 
+// Two types of one shape, so that neither can be given for the other.
+
 /// A waiter's slot.
 #[derive(Clone, Copy, PartialEq, Eq)]
 pub struct WaiterId(pub Id);
@@ -20,6 +22,7 @@ pub struct WaiterId(pub Id);
 #[derive(Clone, Copy, PartialEq, Eq)]
 pub struct FileId(pub Id);
 
+// Not `From`: the token loses the high half of the generation, and gives back a pair.
 impl WaiterId {
     /// The token of this waiter's submissions: the generation wraps at 2^32 there.
     pub fn user_data(self) -> u64

@@ -1,4 +1,4 @@
-//! What the encodings keep.
+//! What the encodings keep. A law is the clause of a function of its own, whose number says nothing.
 ghost use Rattle.records.specs.Encodings.{Encodings};
 
 /// Different submissions have different bytes, and a token gives back what it was made from.

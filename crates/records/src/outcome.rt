@@ -8,7 +8,8 @@ use crate::output::RequestOutput;
 use std::fmt;
 
 /// The result of a request.
-// Not a `Result<(), E>`: it is stored and told, never passed on by `?`, and its number, limits and words are its own.
+// Not a `Result<(), E>`: Ok is one of ten results that are stored, numbered and told alike, and that the laws name; no
+// call passes one on by `?`.
 #[derive(Clone, Copy)]
 pub enum Outcome {
     Ok,
@@ -25,8 +26,8 @@ pub enum Outcome {
     LedgerSpent,
 }
 
+// Each call says one thing of a result and loses the rest, which `From` could not say.
 impl Outcome {
-    // Not `From`: of an error the number alone loses the code.
     pub fn number(self) -> u32
         ensures { result ≡ outcome_number self }
     {
@@ -94,8 +95,8 @@ pub enum CompletionOutcome {
     Complete(WaiterId, Outcome),
 }
 
+// As of `Outcome`.
 impl CompletionOutcome {
-    // Not `From`: the number alone loses the waiter and the result.
     pub fn number(self) -> u32
         ensures { result ≡ completion_number self }
     {
@@ -136,8 +137,8 @@ pub enum Observation {
     Refresh,
 }
 
+// As of `Outcome`.
 impl Observation {
-    // Not `From`: the number alone loses the output.
     pub fn number(self) -> u32
         ensures { result ≡ observation_number self }
     {

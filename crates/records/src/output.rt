@@ -15,6 +15,7 @@ pub enum RequestOutput {
         outcome: Outcome,
     },
     /// The count is there exactly when the outcome is Ok.
+    // Beside the outcome and not inside it: every output has its outcome in one place.
     Recv {
         outcome: Outcome,
         buffer: Buffer,

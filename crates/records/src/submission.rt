@@ -1,6 +1,9 @@
 //! A submission, and the 64 bytes that the kernel reads.
-ghost use Rattle.std.specs.Prelude.{◌≡◌};
+ghost use Rattle.std.specs.Prelude.{◌≡◌, Some};
 ghost use Rattle.records.specs.Bytes.{laid_out, in_place, opcode_number, length_of_submission};
+ghost use Rattle.records.specs.Words.{submission_text};
+
+use std::fmt;
 
 /// The operations that are asked for, with the kernel's numbers.
 #[derive(Clone, Copy)]
@@ -30,6 +33,7 @@ pub fn submission_length(left: u64) -> u32
 
 /// What the kernel is asked to do next. Neither copied nor let go: the call that writes its bytes spends it.
 pub struct Submission {
+    /// A number, and no `Opcode`: the bytes of any are laid out and told apart.
     pub opcode: u8,
     pub descriptor: u32,
     pub offset: u64,
@@ -77,5 +81,19 @@ impl Submission {
         let f = flags.to_le_bytes();
         let t = token.to_le_bytes();
         *out = lay(opcode, d, o, p, l, f, t);
+    }
+}
+
+impl fmt::Display for Submission {
+    ghost output = { λ submission. Some (submission_text submission) };
+
+    fn fmt<W: fmt::Write>(&self, f: &mut fmt::Formatter<W>) -> fmt::Result {
+        write!(f, "opcode {} descriptor {} ", self.opcode, self.descriptor)?;
+        write!(f, "offset {} place {} ", self.offset, self.place)?;
+        write!(
+            f,
+            "length {} flags {} token {}",
+            self.length, self.flags, self.token
+        )
     }
 }

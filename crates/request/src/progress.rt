@@ -15,14 +15,13 @@ pub(crate) fn submitted_of_write(table: &[ChunkRow], write: WriteBuffers) -> u64
 {
     match write {
         WriteBuffers::Single(single) => single.bytes_submitted().into(),
-        WriteBuffers::Rows(rows) => {
-            Rows::new(table, rows.first, rows.count).carried_bytes(rows.cursor)
-        }
+        WriteBuffers::Rows(rows) => { Rows::of(table, rows).carried_bytes(rows.cursor) }
     }
 }
 
 impl RecvRequest {
     /// The bytes that the next submission asks for.
+    // As of a single write, over fields of its own.
     pub fn bytes_submitted(self) -> u32
         ensures { result ≡ recv_submitted self }
     {

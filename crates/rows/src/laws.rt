@@ -1,4 +1,4 @@
-//! What a cursor keeps.
+//! What a cursor keeps. A law is the clause of a function of its own, whose number says nothing.
 ghost use Rattle.rows.specs.Laws.{CursorLaws};
 
 /// A cursor stands where its bytes say, and a submission's iovecs are what is left behind it.

@@ -3,7 +3,7 @@ ghost use Rattle.std.specs.Prelude.{◌≡◌, ◌≤◌, ◌-◌, min, length, 
 ghost use Rattle.rows.specs.Vectors.{range, inside_table, admitted_total, carried_in, iovecs_of, iovec_bytes, filled_answer_in, filled_list_in, advanced_in};
 
 use crate::row::Piece;
-use records::{ChunkRow, Cursor, Denial, Iovec, is_few_bytes};
+use records::{ChunkRow, Cursor, Denial, Iovec, RowsWrite, is_few_bytes};
 use std::marker::Model;
 
 /// The rows of the chunk table that count.
@@ -59,6 +59,13 @@ impl<'a> Rows<'a> {
         Rows {
             rows: front(behind(whole, first as usize), count as usize),
         }
+    }
+
+    /// The rows of a write.
+    pub fn of(table: &'a [ChunkRow], write: RowsWrite) -> Rows<'a>
+        ensures { result ≡ range table.now write.first write.count }
+    {
+        Rows::new(table, write.first, write.count)
     }
 
     /// The bytes of a row range, where each limit is kept.

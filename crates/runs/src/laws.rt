@@ -1,4 +1,4 @@
-//! What holds of every run of one transfer.
+//! What holds of every run of one transfer. A law is the clause of a function of its own, whose number says nothing.
 ghost use Rattle.runs.specs.Laws.{EveryRunIsLawful};
 ghost use Rattle.runs.specs.Situations.{Situations};
 

@@ -37,7 +37,9 @@ pub struct Transfer {
 }
 
 impl Transfer {
-    // The transfer as it begins, by value alone.
+    // The law that a call keeps is proved from what it does, so a private function does it, and says it, first.
+
+    // The transfer as it begins.
     pub(crate) fn admit(wanted: Wanted, table: &[ChunkRow]) -> Result<Transfer, Denial>
         ensures answer { result ≡ begin_answer table.now wanted }
     {
@@ -64,7 +66,7 @@ impl Transfer {
         standing
     }
 
-    // The next submission, by value alone.
+    // The next submission.
     pub(crate) fn stage(
         &mut self,
         setting: Setting,
@@ -105,7 +107,7 @@ impl Transfer {
         self.stage(setting, table, iovecs)
     }
 
-    // A completion, by value alone.
+    // A completion.
     pub(crate) fn hear(
         &mut self,
         table: &[ChunkRow],

@@ -99,12 +99,7 @@ impl<'a, T: Copy> Slab<'a, T> {
     {
         let id = self.next_id()?;
         self.advance();
-        let filled = Slot {
-            generation: id.generation,
-            value: Some(value),
-            next: None,
-        };
-        self.store(id.index, filled);
+        self.store(id.index, Slot::full(id.generation, value));
         self.len = self.len.saturating_add(1);
         Some(id)
     }
@@ -118,11 +113,7 @@ impl<'a, T: Copy> Slab<'a, T> {
         if self.get(id).is_none() {
             return false;
         }
-        let replaced = Slot {
-            generation: id.generation,
-            value: Some(value),
-            next: None,
-        };
+        let replaced = Slot::full(id.generation, value);
         self.store(id.index, replaced);
         true
     }
@@ -133,22 +124,10 @@ impl<'a, T: Copy> Slab<'a, T> {
     {
         match id.generation.checked_add(1) {
             Some(generation) => {
-                let vacant = Slot {
-                    generation,
-                    value: None,
-                    next: self.free,
-                };
-                self.store(id.index, vacant);
+                self.store(id.index, Slot::empty(generation, self.free));
                 self.free = Some(id.index);
             }
-            None => {
-                let retired = Slot {
-                    generation: id.generation,
-                    value: None,
-                    next: None,
-                };
-                self.store(id.index, retired);
-            }
+            None => self.store(id.index, Slot::empty(id.generation, None)),
         }
     }
 

@@ -1,4 +1,4 @@
-//! What holds of every slab.
+//! What holds of every slab. A law is the clause of a function of its own, whose number says nothing.
 ghost use Rattle.std.specs.Prelude.{[], ◌∷◌};
 ghost use Rattle.slots.specs.Events.{Event.insert, Event.set, Event.remove};
 ghost use Rattle.slots.specs.Laws.{Carries, SlabLaws};

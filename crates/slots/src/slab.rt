@@ -1,6 +1,6 @@
 //! A slab over lent slots: what it is made of, and its counts.
 ghost use Rattle.std.specs.Prelude.{◌≡◌};
-ghost use Rattle.slots.specs.Slots.{fresh, unused_slot};
+ghost use Rattle.slots.specs.Slots.{fresh, empty, full, unused_slot};
 
 use std::marker::Model;
 
@@ -40,9 +40,25 @@ impl<T: Copy> Slot<T> {
     pub fn unused() -> Slot<T>
         ensures { result ≡ unused_slot }
     {
+        Slot::empty(0, None)
+    }
+
+    pub(crate) fn empty(generation: u64, next: Option<u32>) -> Slot<T>
+        ensures { result ≡ empty generation next }
+    {
         Slot {
-            generation: 0,
+            generation,
             value: None,
+            next,
+        }
+    }
+
+    pub(crate) fn full(generation: u64, value: T) -> Slot<T>
+        ensures { result ≡ full generation value }
+    {
+        Slot {
+            generation,
+            value: Some(value),
             next: None,
         }
     }

@@ -26,8 +26,6 @@ pub struct Setting {
     pub list: u64,
 }
 
-// The setting, the table and the list stay three parameters: the list is lent for the one call, and a struct that held it would only be taken apart again.
-
 /// A request as it goes into flight, and its submission.
 pub struct Staged {
     pub request: Request,
@@ -79,7 +77,7 @@ pub(crate) fn part_of_write(
             length: single.bytes_submitted(),
         }),
         WriteBuffers::Rows(rows) => {
-            let count = Rows::new(table, rows.first, rows.count).fill_iovecs(rows.cursor, iovecs)?;
+            let count = Rows::of(table, rows).fill_iovecs(rows.cursor, iovecs)?;
             Ok(Part {
                 opcode: Opcode::Writev,
                 place: list,
@@ -112,6 +110,9 @@ pub(crate) fn build_datasync(setting: Setting) -> Submission
         token: setting.token,
     }
 }
+
+// The setting, the table and the list stay three parameters of each function below: the list is lent for one call, and
+// a struct that held it would only be taken apart again.
 
 pub(crate) fn build_send(
     q: SendRequest,

@@ -21,7 +21,8 @@ pub(crate) enum Item {
     Completion { result: i32 },
 }
 
-// The functions from words to values of other crates are no `FromStr`: that would have to stand in those crates, and the words are this program's.
+// No `FromStr`: of the types of other crates it would have to stand there, with words that are this program's; and the
+// words of a whole line need a heap, which it is not given.
 
 // The plus that parse would take is not in the notation.
 fn parse_number<T: FromStr>(word: &str) -> Option<T>

@@ -227,6 +227,7 @@ impl Player {
 }
 
 /// Plays a text; the number of the line that cannot be read, if any.
+// No error: the line is told here, and who asks wants its number or only whether there is one.
 pub(crate) fn play_text(rt: &HostRuntime, text: &str) -> io::Result<Option<usize>> {
     let mut player = Player::new(rt.alloc())?;
     for (number, line) in (1usize..).zip(text.lines()) {

@@ -77,7 +77,7 @@ pub(crate) fn show_end(rt: &HostRuntime, request: Request, outcome: Outcome) -> 
 
 fn show_iovecs(rt: &HostRuntime, iovecs: &[Iovec]) -> io::Result<()> {
     for iovec in iovecs {
-        println!(rt; "  iovec {} {}", iovec.base, iovec.length)?;
+        println!(rt; "  iovec {iovec}")?;
     }
     Ok(())
 }
@@ -100,7 +100,7 @@ pub(crate) fn show_submission(
     let opcode = submission.opcode;
     let length = submission.length;
     let mut bytes = [0; 64];
-    let shown = show_fields(rt, &submission);
+    let shown = println!(rt; "submission: {submission}");
     submission.write(&mut bytes);
     shown?;
     println!(rt; "  {}", Hex(bytes))?;
@@ -108,16 +108,4 @@ pub(crate) fn show_submission(
         Some(carried) if opcode == u8::from(Opcode::Writev) => show_list(rt, carried),
         _ => Ok(()),
     }
-}
-
-fn show_fields(rt: &HostRuntime, submission: &Submission) -> io::Result<()> {
-    print!(rt;
-        "submission: opcode {} descriptor {} ",
-        submission.opcode, submission.descriptor
-    )?;
-    print!(rt; "offset {} place {} ", submission.offset, submission.place)?;
-    println!(rt;
-        "length {} flags {} token {}",
-        submission.length, submission.flags, submission.token
-    )
 }
