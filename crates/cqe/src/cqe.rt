@@ -42,7 +42,7 @@ pub(crate) fn does_fit(request: Request, table: &[ChunkRow], res: CqeResult) -> 
 {
     match res {
         CqeResult::Count { bytes } => is_sync(request)
-            || bytes as u64 <= request.bytes_submitted(table),
+            || u64::from(bytes) <= request.bytes_submitted(table),
         _ => true,
     }
 }

@@ -18,7 +18,7 @@ pub(crate) fn recv_cqe(q: RecvRequest, res: CqeResult) -> Step
             Outcome::RecvFailed,
         ),
         (exact, CqeResult::Count { bytes }) => {
-            let received = q.received.saturating_add(bytes as u64);
+            let received = q.received.saturating_add(u64::from(bytes));
             let moved = Request::Recv(RecvRequest { received, ..q });
             if exact && received < q.length {
                 return Step::goes_on(moved);
@@ -56,7 +56,7 @@ pub(crate) fn give_up_direct(q: ReadAtRequest, direct: Direct) -> ReadAtRequest
 pub(crate) fn count_direct(q: ReadAtRequest, direct: Direct, bytes: u32) -> Step
     ensures { result ≡ direct_count q direct bytes }
 {
-    let read = q.read.saturating_add(bytes as u64);
+    let read = q.read.saturating_add(u64::from(bytes));
     if read >= direct.skip.saturating_add(direct.length) {
         let whole = ReadAtRequest {
             read,
@@ -74,7 +74,7 @@ pub(crate) fn count_direct(q: ReadAtRequest, direct: Direct, bytes: u32) -> Step
 pub(crate) fn count_buffered(q: ReadAtRequest, bytes: u32) -> Step
     ensures { result ≡ buffered_count q bytes }
 {
-    let read = q.read.saturating_add(bytes as u64);
+    let read = q.read.saturating_add(u64::from(bytes));
     let moved = Request::ReadAt(ReadAtRequest { read, ..q });
     if read < q.buffer.length {
         return Step::goes_on(moved);

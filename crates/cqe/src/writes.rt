@@ -16,13 +16,13 @@ pub(crate) fn move_on(table: &[ChunkRow], write: WriteBuffers, bytes: u32) -> Wr
     match write {
         WriteBuffers::Single(single) => {
             WriteBuffers::Single(SingleWrite {
-                done: single.done.saturating_add(bytes as u64),
+                done: single.done.saturating_add(u64::from(bytes)),
                 ..single
             })
         }
         WriteBuffers::Rows(rows) => WriteBuffers::Rows(RowsWrite {
-            cursor: Rows::of(table, rows).advance(rows.cursor, bytes as u64),
-            done: rows.done.saturating_add(bytes as u64),
+            cursor: Rows::of(table, rows).advance(rows.cursor, u64::from(bytes)),
+            done: rows.done.saturating_add(u64::from(bytes)),
             ..rows
         }),
     }

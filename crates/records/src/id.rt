@@ -28,7 +28,7 @@ impl WaiterId {
     pub fn user_data(self) -> u64
         ensures { result ≡ token self }
     {
-        (self.0.generation % 4294967296) * 4294967296 + self.0.index as u64
+        (self.0.generation % 4294967296) * 4294967296 + u64::from(self.0.index)
     }
 
     /// The slot index and the low half of the generation that a token names.

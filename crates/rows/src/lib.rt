@@ -2,7 +2,7 @@
 #![tactic(auto)]
 
 pub mod laws;
-pub mod row;
+pub mod piece;
 pub mod view;
 
 pub use laws::cursors_keep_their_bytes;

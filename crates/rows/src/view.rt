@@ -2,7 +2,7 @@
 ghost use Rattle.std.specs.Prelude.{◌≡◌, ◌≤◌, ◌-◌, min, length, take, drop};
 ghost use Rattle.rows.specs.Vectors.{range, inside_table, admitted_total, carried_in, iovecs_of, iovec_bytes, filled_answer_in, filled_list_in, advanced_in};
 
-use crate::row::Piece;
+use crate::piece::Piece;
 use records::{ChunkRow, Cursor, Denial, Iovec, RowsWrite, is_few_bytes};
 use std::marker::Model;
 
