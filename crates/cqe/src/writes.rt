@@ -9,7 +9,7 @@ use records::{Cache, ChunkRow, Outcome, RowsWrite, SingleWrite, WriteAtState, Wr
 use request::{Request, SendRequest, WriteAtRequest};
 use rows::Rows;
 
-// A write with more bytes reported.
+// A write with more bytes reported. The table stands beside it, as beside all that looks at rows.
 pub(crate) fn move_on(table: &[ChunkRow], write: WriteBuffers, bytes: u32) -> WriteBuffers
     ensures { result ≡ write_moved table.now write bytes }
 {

@@ -74,6 +74,7 @@ fn cover_first(marks: &mut [Mark], count: u64)
 }
 
 /// Numbers are counted from the marks.
+// Clauses name `seen_row`, what the marks mean, and no model does: they also say what becomes of every mark.
 impl Tally for MarkRow {
     const MOST: u64 = 256;
 

@@ -13,7 +13,7 @@ use records::{
 };
 use rows::Rows;
 
-// A source with nothing reported, where it keeps its limits.
+// A source with nothing reported, where it keeps its limits. The table stands beside it, as beside all that looks at rows.
 pub(crate) fn begin_write(table: &[ChunkRow], source: Source) -> Option<WriteBuffers>
     ensures { result ≡ begun table.now source }
 {

@@ -9,7 +9,7 @@ use rows::Rows;
 /// What the kernel moves at once, in whole pages.
 const DIRECT_CHUNK: u64 = 2147479552;
 
-// The bytes that the next submission of a write carries.
+// The bytes that the next submission of a write carries. The table stands beside it, as beside all that looks at rows.
 pub(crate) fn submitted_of_write(table: &[ChunkRow], write: WriteBuffers) -> u64
     ensures { result ≡ write_submitted table.now write }
 {

@@ -59,7 +59,7 @@ pub(crate) fn cache_flag(cache: Cache) -> u32
     }
 }
 
-// One place is submitted as it is, rows by their iovecs.
+// One place is submitted as it is, rows by their iovecs. The table stands beside the write, as beside all that looks at rows.
 pub(crate) fn part_of_write(
     table: &[ChunkRow],
     write: WriteBuffers,
