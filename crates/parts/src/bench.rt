@@ -9,7 +9,8 @@ use std::time::{Duration, Instant};
 /// Rounds over the largest table; smaller ones take as many calls in more rounds.
 const LARGEST: u32 = 65536;
 
-// Fills a slab, looks each entry up and takes each out; what it saw, so that no call is left out.
+// Fills a slab, looks each entry up and takes each out; what it saw, so that no call is left out. By index, since
+// `id_at` is one of the calls that are measured.
 fn turn_slab(slab: &mut Slab<u64>, entries: u32) -> u64 {
     let mut seen = 0u64;
     for i in 0..entries {
@@ -31,8 +32,7 @@ fn turn_slab(slab: &mut Slab<u64>, entries: u32) -> u64 {
 // A write and the sync that covers it, on each row.
 fn turn_ledger<L: Ledger>(ledger: &mut L, rows: u32) -> u64 {
     let mut seen = 0u64;
-    for i in 0..rows {
-        let row = i as usize;
+    for row in 0..rows as usize {
         ledger.wrote(row, WriteAtState::Writing, Outcome::Ok);
         let began = ledger.begin_sync(row);
         ledger.end_sync(row, began);

@@ -52,6 +52,7 @@ pub(crate) fn is_inside_table(rows: usize, first: u32, count: u32) -> bool
 
 impl<'a> Rows<'a> {
     /// The rows of a range, as far as the table has them.
+    // First and count stay two numbers: this and the admission below take them where there is no write yet.
     pub fn new(table: &'a [ChunkRow], first: u32, count: u32) -> Rows<'a>
         ensures { result ≡ range table.now first count }
     {
