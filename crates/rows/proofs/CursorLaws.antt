@@ -5,6 +5,7 @@ use Rattle.std.proofs.lemmas.List.{drop-drop}
 use Rattle.records.specs.declared.buffer.ChunkRow.{ChunkRow}
 use Rattle.records.specs.declared.write.Cursor.{Cursor}
 use Rattle.rows.specs.Vectors.{range, carried, carried_in, total, iovec_of, iovecs_of, iovec_bytes, along}
+use Rattle.rows.proofs.Walks.{bytes_rest}
 use Rattle.rows.specs.Laws.{Sound, before, Inside, Stands, left_after, CursorLaws}
 
 total_split : (v : List ChunkRow) (c : ℕ) → total (take c v) + total (drop c v) ≡ total v
@@ -52,15 +53,10 @@ stays v (r ∷ rs) c o n d ok h =
 
 -- iovecs of rows that hold their offset
 
-whole : (rs : List ChunkRow) → iovec_bytes (iovecs_of 0 rs) ≡ total rs
-unfolding iovec_bytes iovecs_of total
-whole [] = refl
-whole (r ∷ rs) = let i = whole rs in omega (arith, i)
-
 short : (rs : List ChunkRow) (o : ℕ) → Inside rs o → iovec_bytes (iovecs_of o rs) + o ≡ total rs
 unfolding iovec_bytes iovecs_of total
 short [] o h = omega (arith, h)
-short (r ∷ rs) o h = let i = whole rs in omega (arith, i, h)
+short (r ∷ rs) o h = let i = bytes_rest rs in omega (arith, i, h)
 
 total_take : (k : ℕ) (xs : List ChunkRow) → total (take k xs) ≤ total xs
 unfolding total

@@ -1,6 +1,6 @@
 -- A step and the end of each walk over rows.
-use Rattle.std.proofs.Common.{◌≡◌, ℕ, ◌+◌, ◌-◌, ◌<◌, ◌≤◌, min, true, cond, ◌&&◌, ltb, List, [], ◌∷◌, ◌++◌, length, take, drop, set, get_or, fold, Some, None, refl, sym, ap, ◌∙◌, append_assoc, arith}
-use Rattle.std.proofs.lemmas.List.{at_drop_more, at_drop_all, take_more_set, take-append-drop, append-nil}
+use Rattle.std.proofs.Common.{◌≡◌, ℕ, ◌+◌, ◌-◌, ◌<◌, ◌≤◌, min, true, cond, ◌&&◌, ltb, List, [], ◌∷◌, ◌++◌, length, take, drop, set, get_or, Some, None, refl, sym, ap, ◌∙◌, append_assoc, arith}
+use Rattle.std.proofs.lemmas.List.{at_drop_more, at_drop_all, take_more_set, take-append-drop, append-nil, take_min, take-take, drop-take, length-take}
 use Rattle.std.proofs.lemmas.Bool.Decides.{nat_tests}
 use Rattle.std.proofs.lemmas.Option.{cond_some}
 use Rattle.records.specs.Limits.{row_limits}
@@ -11,6 +11,20 @@ use Rattle.rows.specs.Vectors.{all_within, total, iovec_of, iovecs_of, iovec_byt
 -- what a walk reads at an index past the end
 abbrev pub blank : ChunkRow
 blank = record { place = 0; length = 0 }
+
+-- a range of a table's front
+
+front_of_front : (n m : ℕ) (xs : List ChunkRow) → take (min n m) xs ≡ take n (take m xs)
+front_of_front n m xs =
+    let e : min (min n m) (length xs) ≡ min n (min m (length xs)) = omega arith in
+    sym (take_min (min n m) xs)
+    ∙ ap (λ k. take k xs) e
+    ∙ sym (take-take (min n (min m (length xs))) m xs (omega arith))
+    ∙ ap (λ k. take (min n k) (take m xs)) (sym (length-take m xs))
+    ∙ take_min n (take m xs)
+
+pub range_front : (f n m : ℕ) (xs : List ChunkRow) → drop f (take (min (f + n) m) xs) ≡ take n (drop f (take m xs))
+range_front f n m xs = ap (drop f) (front_of_front (f + n) m xs) ∙ drop-take f n (take m xs)
 
 -- the sum of an admission
 
@@ -74,10 +88,10 @@ unfolding iovecs_of iovec_bytes
 bytes_none [] o h = refl
 bytes_none (r ∷ rs) o h = absurd (omega arith)
 
-pub bytes_fold : (m b : ℕ) (u : List ChunkRow) → b ≤ m → fold (λ b (r : ChunkRow). min (b + r.length) m) b u ≡ min (b + iovec_bytes (iovecs_of 0 u)) m
-unfolding iovecs_of iovec_bytes
-bytes_fold m b [] h = omega arith
-bytes_fold m b (r ∷ rs) h = let i = bytes_fold m (min (b + r.length) m) rs (omega arith) in omega (arith, i)
+pub bytes_rest : (rs : List ChunkRow) → iovec_bytes (iovecs_of 0 rs) ≡ total rs
+unfolding iovecs_of iovec_bytes total
+bytes_rest [] = refl
+bytes_rest (r ∷ rs) = let i = bytes_rest rs in omega (arith, i)
 
 pub bytes_first : (r : ChunkRow) (u : List ChunkRow) (o : ℕ) → iovec_bytes (iovecs_of o (r ∷ u)) ≡ (r.length - o) + iovec_bytes (iovecs_of 0 u)
 unfolding iovecs_of iovec_bytes
