@@ -180,28 +180,45 @@ failing table (wanted.DirectReadAt f d offset m place capacity) t sy o e u = ((�
 failing table (wanted.WriteAt f offset s m cache) t sy o e u = ((λ k. absurd (e k)), (λ c y. absurd (u c y)))
 failing table (wanted.Sync f) t sy o e u = tt
 
--- while a transfer goes on it has reported no more than its range, is not fulfilled, and has had few completions
+-- while a transfer goes on it is not fulfilled, and has reported no more than its range; one that moves bytes has had few completions
+
+pub unfulfilled : (table : List ChunkRow) (w : Wanted) (q : Request) (t : Tried) (tk : ℕ) (sy : Bool) → Going table w q t tk sy → Unfulfilled table w t sy
+unfulfilled table (wanted.Send d s) q t tk sy g = tt
+unfulfilled table (wanted.Recv d b m exact) q t tk sy g = tt
+unfulfilled table (wanted.ReadAt f offset b cache) q t tk sy g = let a = g.facts in rw g.tried_is (λ c. omega arith)
+unfulfilled table (wanted.DirectReadAt f d offset m place capacity) q t tk sy (inl g) = let a = g.facts in rw g.tried_is (λ c. omega arith)
+unfulfilled table (wanted.DirectReadAt f d offset m place capacity) q t tk sy (inr g) = let a = g.facts in rw g.tried_is (λ c. omega arith)
+unfulfilled table (wanted.WriteAt f offset s m cache) q t tk sy (inl g) = let a = g.facts in rw g.tried_is (λ c y. omega arith)
+unfulfilled table (wanted.WriteAt f offset s m cache) q t tk sy (inr g) = let a = g.facts in rw (a.made, g.tried_is, g.not_yet) (λ c y. cc)
+unfulfilled table (wanted.Sync f) q t tk sy g = tt
+
+pub going_within : (table : List ChunkRow) (w : Wanted) (q : Request) (t : Tried) (tk : ℕ) (sy : Bool) → Going table w q t tk sy → Within table w t
+going_within table (wanted.Send d s) q t tk sy g = let a = g.facts in rw g.tried_is (omega arith)
+going_within table (wanted.Recv d b m exact) q t tk sy g = let a = g.facts in rw g.tried_is (omega arith)
+going_within table (wanted.ReadAt f offset b cache) q t tk sy g = let a = g.facts in rw g.tried_is (omega arith)
+going_within table (wanted.DirectReadAt f d offset m place capacity) q t tk sy (inl g) = let a = g.facts in rw g.tried_is (omega arith)
+going_within table (wanted.DirectReadAt f d offset m place capacity) q t tk sy (inr g) = let a = g.facts in rw g.tried_is (omega arith)
+going_within table (wanted.WriteAt f offset s m cache) q t tk sy (inl g) = let a = g.facts in rw g.tried_is (omega arith)
+going_within table (wanted.WriteAt f offset s m cache) q t tk sy (inr g) = rw g.tried_is (omega arith)
+going_within table (wanted.Sync f) q t tk sy g = tt
+
+one_more : (table : List ChunkRow) (w : Wanted) (q : Request) (t : Tried) (tk : ℕ) (sy : Bool) → 0 < bytes_wanted table w → Going table w q t tk sy → 1 + tk ≤ most_completions table w
+one_more table (wanted.Send d s) q t tk sy z g = let a = g.facts in omega arith
+one_more table (wanted.Recv d b m exact) q t tk sy z g = let a = g.facts in omega arith
+one_more table (wanted.ReadAt f offset b cache) q t tk sy z g = let a = g.facts in omega arith
+one_more table (wanted.DirectReadAt f d offset m place capacity) q t tk sy z (inl g) = let a = g.facts in omega arith
+one_more table (wanted.DirectReadAt f d offset m place capacity) q t tk sy z (inr g) = let a = g.facts in omega arith
+one_more table (wanted.WriteAt f offset s m cache) q t tk sy z (inl g) = let a = g.facts in omega arith
+one_more table (wanted.WriteAt f offset s m cache) q t tk sy z (inr g) = let a = g.facts in omega arith
+one_more table (wanted.Sync f) q t tk sy z g = absurd (omega arith)
+
 pub record Bounded (table : List ChunkRow) (w : Wanted) (t : Tried) (tk : ℕ) (sy : Bool) : Type 0 where
   pub within : Within table w t
   pub unfulfilled : Unfulfilled table w t sy
   pub few : 1 + tk ≤ most_completions table w
 
 pub bounded : (table : List ChunkRow) (w : Wanted) (q : Request) (t : Tried) (tk : ℕ) (sy : Bool) → 0 < bytes_wanted table w → Going table w q t tk sy → Bounded table w t tk sy
-bounded table (wanted.Send d s) q t tk sy z g =
-    let a = g.facts in rw g.tried_is (record { within = omega arith; unfulfilled = tt; few = omega arith })
-bounded table (wanted.Recv d b m exact) q t tk sy z g =
-    let a = g.facts in rw g.tried_is (record { within = omega arith; unfulfilled = tt; few = omega arith })
-bounded table (wanted.ReadAt f offset b cache) q t tk sy z g =
-    let a = g.facts in rw g.tried_is (record { within = omega arith; unfulfilled = λ c. omega arith; few = omega arith })
-bounded table (wanted.DirectReadAt f d offset m place capacity) q t tk sy z (inl g) =
-    let a = g.facts in rw g.tried_is (record { within = omega arith; unfulfilled = λ c. omega arith; few = omega arith })
-bounded table (wanted.DirectReadAt f d offset m place capacity) q t tk sy z (inr g) =
-    let a = g.facts in rw g.tried_is (record { within = omega arith; unfulfilled = λ c. omega arith; few = omega arith })
-bounded table (wanted.WriteAt f offset s m cache) q t tk sy z (inl g) =
-    let a = g.facts in rw g.tried_is (record { within = omega arith; unfulfilled = λ c y. omega arith; few = omega arith })
-bounded table (wanted.WriteAt f offset s m cache) q t tk sy z (inr g) =
-    let a = g.facts in rw (a.made, g.tried_is, g.not_yet) (record { within = omega arith; unfulfilled = λ c y. cc; few = omega arith })
-bounded table (wanted.Sync f) q t tk sy z g = absurd (omega arith)
+bounded table w q t tk sy z g = record { within = going_within table w q t tk sy g; unfulfilled = unfulfilled table w q t tk sy g; few = one_more table w q t tk sy z g }
 
 pub not_ok : (o : Outcome) → ended_well o ≡ false → o ≡ outcome.Ok → ⊥
 not_ok o e k = true≢false (rw k at e)
