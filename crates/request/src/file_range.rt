@@ -26,6 +26,13 @@ impl FileRange {
             && self.offset + self.length <= LAST_OFFSET
     }
 
+    // Where the pages that hold them begin.
+    fn start(self) -> u64
+        ensures { result ≡ superset_start self.offset }
+    {
+        self.offset - self.offset % BLOB_PAGE_SIZE
+    }
+
     // The whole pages that hold them.
     pub(crate) fn superset(self) -> FileRange
         requires { self.length ≤ 1099511627776 }
@@ -34,7 +41,7 @@ impl FileRange {
     {
         let skip = self.offset % BLOB_PAGE_SIZE;
         FileRange {
-            offset: self.offset - skip,
+            offset: self.start(),
             length: (skip + self.length + BLOB_PAGE_SIZE - 1) / BLOB_PAGE_SIZE * BLOB_PAGE_SIZE,
         }
     }
