@@ -202,7 +202,7 @@ going_within table (wanted.WriteAt f offset s m cache) q t tk sy (inl g) = let a
 going_within table (wanted.WriteAt f offset s m cache) q t tk sy (inr g) = rw g.tried_is (omega arith)
 going_within table (wanted.Sync f) q t tk sy g = tt
 
-one_more : (table : List ChunkRow) (w : Wanted) (q : Request) (t : Tried) (tk : ℕ) (sy : Bool) → 0 < bytes_wanted table w → Going table w q t tk sy → 1 + tk ≤ most_completions table w
+pub one_more : (table : List ChunkRow) (w : Wanted) (q : Request) (t : Tried) (tk : ℕ) (sy : Bool) → 0 < bytes_wanted table w → Going table w q t tk sy → 1 + tk ≤ most_completions table w
 one_more table (wanted.Send d s) q t tk sy z g = let a = g.facts in omega arith
 one_more table (wanted.Recv d b m exact) q t tk sy z g = let a = g.facts in omega arith
 one_more table (wanted.ReadAt f offset b cache) q t tk sy z g = let a = g.facts in omega arith
