@@ -43,5 +43,5 @@ pub fn append<X: Copy>(xs: &mut [X], len: usize, x: X) -> Option<usize>
 pub fn find<X: Same>(xs: &[X], x: X) -> Option<usize>
     ensures { First x xs.now result }
 {
-    xs.iter().position(|y| *y == x)
+    xs.iter().position(|y| y.same(x))
 }
