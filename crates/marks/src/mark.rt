@@ -5,7 +5,7 @@ ghost use Rattle.ledger.specs.Meaning.{fresh_row, first_error, tainted_row, coun
 ghost use Rattle.marks.specs.Marking.{completed_marks, covered_marks, is_unused, opened_at, covered_mark, left_after, cover_first, covered_row, seen_row, fresh_marks};
 
 use ledger::{LentLedger, Row, Tally};
-use records::{Outcome, Same};
+use records::{Exact, Outcome, Same};
 
 /// One write that a row can count.
 #[derive(Clone, Copy, PartialEq, Eq)]
@@ -17,6 +17,12 @@ pub enum Mark {
 }
 
 impl Same for Mark {
+    fn same(self, other: Mark) -> bool {
+        self == other
+    }
+}
+
+impl Exact for Mark {
     ghost identical = { Prim.search rules };
 }
 

@@ -20,7 +20,7 @@ pub use laws::encodings_lose_nothing;
 pub use mode::{Cache, WriteAtState, WriteMode};
 pub use outcome::{CompletionOutcome, Observation, Outcome};
 pub use output::{Deferred, RequestOutput, RetiredResources};
-pub use same::Same;
+pub use same::{Exact, Same};
 pub use submission::{Opcode, Submission, submission_length};
 pub use waiter::{Observer, WaiterState};
 pub use write::{Cursor, RowsWrite, SingleWrite, Source, WriteBuffers};

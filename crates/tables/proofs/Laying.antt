@@ -1,12 +1,11 @@
 -- Lists in the first places of a slice, and the first place of an element.
-use Rattle.std.proofs.Common.{◌≡◌, ◌≢◌, ℕ, suc, ◌+◌, ◌≤◌, Bool, true, false, cond, not, nat_lt, List, [], ◌∷◌, ◌++◌, length, drop, set, ltb, ◌<◌, Some, None, refl, ap, ◌∙◌, arith}
+use Rattle.std.proofs.Common.{◌≡◌, ◌≢◌, ℕ, zero, suc, ◌+◌, ◌≤◌, true, List, [], ◌∷◌, ◌++◌, length, drop, set, ltb, ◌<◌, Some, None, Option, refl, ap, ◌∙◌, arith}
 use Rattle.std.proofs.Math.Seq.{take-append_seam, drop-append_seam}
-use Rattle.std.proofs.lemmas.Bool.{le-leb, ltb-true, both_ways}
-use Rattle.std.proofs.lemmas.Bool.Decides.{nat_tests}
+use Rattle.std.proofs.lemmas.Bool.{le-leb, ltb-true}
 use Rattle.std.proofs.lemmas.List.{take-append-drop, drop_more, take_more_set, drop-set-lt}
 use Rattle.std.proofs.lemmas.Option.{cond_some}
-use Rattle.std.specs.Bool.{Decides}
-use Rattle.std.specs.List.{position, position_or_len}
+use Rattle.std.specs.List.{AllWithin, HoldsAt}
+use Rattle.std.specs.Option.{MatchOption}
 use Rattle.tables.specs.Listed.{Listed, longer, laid, appends, appended, writes, written, First}
 
 module _ {X : Type 0} where
@@ -27,19 +26,18 @@ module _ {X : Type 0} where
       let k : len < len + 1 = omega arith in
       rw (← v, ← p.1, drop_more places len x h, take_more_set places len x h, drop-set-lt (len + 1) places len x k) (refl, refl)
 
-  further : (x y : X) (ys : List X) (t : Bool) (n : ℕ) → y ≢ x → First x ys (cond t (Some n) None) → First x (y ∷ ys) (cond t (Some (suc n)) None)
-  further x y ys true n e f = (e, f)
-  further x y ys false n e f = (e, f)
+  nowhere_of : (x : X) (xs : List X) → AllWithin (λ y. y ≢ x) xs 0 (length xs) → First x xs None
+  nowhere_of x [] a = tt
+  nowhere_of x (y ∷ ys) a = (a 0 y (omega arith) (omega arith), nowhere_of x ys (λ k d l h. a (suc k) d (omega arith) (omega arith)))
 
-  stepped : (x y : X) (ys : List X) (b : Bool) (n : ℕ) → Decides b (y ≡ x) → First x ys (cond (nat_lt n (length ys)) (Some n) None) →
-      First x (y ∷ ys) (cond (nat_lt (cond (not b) (1 + n) 0) (suc (length ys))) (Some (cond (not b) (1 + n) 0)) None)
-  stepped x y ys true n d f = let e : nat_lt 0 (suc (length ys)) ≡ true = grind (arith, nat_tests) in rw e (d.0 refl)
-  stepped x y ys false n d f =
-      let s : 1 + n ≡ suc n = omega arith in
-      let e : nat_lt (suc n) (suc (length ys)) ≡ nat_lt n (length ys) = grind (arith, nat_tests) in
-      rw (s, e) (further x y ys (nat_lt n (length ys)) n (λ q. both_ways false refl (d.1 q)) f)
+  place_of : (x : X) (xs : List X) (i : ℕ) → i < length xs → HoldsAt (λ y. y ≡ x) xs i → AllWithin (λ y. y ≢ x) xs 0 i → First x xs (Some i)
+  place_of x [] i h p a = absurd (omega arith)
+  place_of x (y ∷ ys) zero h p a = p y
+  place_of x (y ∷ ys) (suc i) h p a =
+      (a 0 y (omega arith) (omega arith), place_of x ys i (omega arith) p (λ k d l m. a (suc k) d (omega arith) (omega arith)))
 
-  -- where a test passes first that decides which element it is, the element lies first
-  pub first_from : (x : X) (test : X → Bool) → ((y : X) → Decides (test y) (y ≡ x)) → (xs : List X) → First x xs (position test xs)
-  first_from x test d [] = tt
-  first_from x test d (y ∷ ys) = stepped x y ys (test y) (position_or_len test ys) (d y) (first_from x test d ys)
+  -- a place before which the element lies nowhere is its first
+  pub first_of : (x : X) (xs : List X) (r : Option ℕ) →
+      MatchOption r (AllWithin (λ y. y ≢ x) xs 0 (length xs)) (λ i. (i < length xs) × HoldsAt (λ y. y ≡ x) xs i × AllWithin (λ y. y ≢ x) xs 0 i) → First x xs r
+  first_of x xs None m = nowhere_of x xs m
+  first_of x xs (Some i) m = place_of x xs i m.0 m.1 m.2

@@ -1,5 +1,6 @@
 //! Why a list takes no more.
-ghost use Rattle.std.specs.Prelude.{Some, codes};
+ghost use Rattle.std.specs.Prelude.{Some};
+ghost use Rattle.tables.specs.Words.{full_text};
 
 use std::error::Error;
 use std::fmt;
@@ -9,7 +10,7 @@ use std::fmt;
 pub struct Full;
 
 impl fmt::Display for Full {
-    ghost output = { λ _. Some (codes "no place is left") };
+    ghost output = { λ _. Some full_text };
 
     fn fmt<W: fmt::Write>(&self, f: &mut fmt::Formatter<W>) -> fmt::Result {
         f.write_str("no place is left")

@@ -9,4 +9,4 @@ pub mod slices;
 pub use full::Full;
 pub use laws::lists_hold_what_was_put;
 pub use list::LentList;
-pub use slices::{append, fill, find, put};
+pub use slices::{append, fill, find, find_among, put};

@@ -1,5 +1,5 @@
 //! Elements of a lent slice: one written where there is such a place, all of them, one more behind the first ones, and where one lies.
-ghost use Rattle.std.specs.Prelude.{◌≡◌, length, replicate, slice_set};
+ghost use Rattle.std.specs.Prelude.{◌≡◌, length, take, replicate, slice_set};
 ghost use Rattle.tables.specs.Listed.{longer, First};
 
 use records::Same;
@@ -43,5 +43,12 @@ pub fn append<X: Copy>(xs: &mut [X], len: usize, x: X) -> Option<usize>
 pub fn find<X: Same>(xs: &[X], x: X) -> Option<usize>
     ensures { First x xs.now result }
 {
-    xs.iter().position(|y| *y == x)
+    xs.iter().position(|y| y.same(x))
+}
+
+/// The first place of an element, among so many of the first ones: among all where there are fewer.
+pub fn find_among<X: Same>(xs: &[X], len: usize, x: X) -> Option<usize>
+    ensures { First x (take len xs.now) result }
+{
+    find(xs.get(..len).unwrap_or(xs), x)
 }
