@@ -10,7 +10,7 @@ use std::marker::Model;
 use tables::{fill, put};
 
 /// Rows that a caller lends.
-// An impl with a lifetime cannot name its constant in a contract: the loan has it, so that the ledger's own has none.
+// Not the slice itself in the ledger: a trait's constant has no name in the contracts of an impl with a lifetime.
 pub trait LentRows: Drop {
     /// What is kept of each file.
     type Kept: Tally;
@@ -61,7 +61,7 @@ pub type LentLedger<'a, T> = LedgerOver<&'a mut [T]>;
 /// The ledger that keeps two numbers a row.
 pub type Counts<'a> = LentLedger<'a, Row>;
 
-impl<'a, T: Tally> LedgerOver<&'a mut [T]> {
+impl<'a, T: Tally> LentLedger<'a, T> {
     /// Makes each of the caller's rows fresh.
     #[tactic(auto, using(crate::proofs::Filling::map_replicate))]
     pub fn new(rows: &'a mut [T]) -> Self
