@@ -3,24 +3,23 @@ ghost use Rattle.std.specs.Prelude.{◌≡◌, ℕ, List, length};
 ghost use Rattle.ledger.specs.declared.row.Row.{Row};
 ghost use Rattle.ledger.specs.Meaning.{on_row, completed_at, taint_at, sync_wanted_at, fresh_row, wrote_row, write_answer, ended_row, sync_answer, failed_row};
 
-use crate::tally::Tally;
 use records::{Outcome, WriteAtState};
 
 /// Rows of files, by number. No call refuses; a row that the ledger lacks reads as fresh.
 pub trait Ledger {
-    /// What is kept of each file.
-    type Kept: Tally;
-
     /// The most that the completed writes of a row can reach.
-    const MOST: u64 = <Self::Kept as Tally>::MOST;
+    const MOST: u64;
+
+    ghost MOST: { ℕ };
 
     ghost rows: { Self → List Row };
 
     ghost peak: { ℕ };
 
-    /// The same, as contracts name it: an impl with a lifetime cannot have a ghost member by the constant's own name.
+    /// The constant, which the contracts of the calls name `peak`.
     fn limit() -> u64
-        ensures { result ≡ peak };
+        ensures peak { result ≡ peak }
+        ensures constant { result ≡ MOST };
 
     /// How many rows there are.
     fn len(&self) -> usize

@@ -1,5 +1,5 @@
 //! The ledger over rows that the caller lends, whatever they keep of a file.
-ghost use Rattle.std.specs.Prelude.{◌≡◌, length, replicate, slice_set};
+ghost use Rattle.std.specs.Prelude.{◌≡◌, List, length, replicate, slice_set};
 ghost use Rattle.ledger.specs.Meaning.{fresh_row, row_at};
 
 use crate::ledger::Ledger;
@@ -9,68 +9,107 @@ use records::{Outcome, WriteAtState};
 use std::marker::Model;
 use tables::{fill, put};
 
-/// A ledger over the caller's rows.
-#[derive(Drop)]
-pub struct LentLedger<'a, T: Tally> {
-    rows: &'a mut [T],
+/// Rows that a caller lends.
+// Not the slice itself in the ledger: a trait's constant has no name in the contracts of an impl with a lifetime.
+pub trait LentRows: Drop {
+    /// What is kept of each file.
+    type Kept: Tally;
+
+    ghost kept: { Self → List Self.Kept };
+
+    /// The rows as they stand.
+    fn kept(&self) -> &[Self::Kept]
+        ensures { result.now ≡ kept self.now };
+
+    /// Past the end nothing is kept.
+    fn keep(&mut self, row: usize, tally: Self::Kept)
+        ensures { kept self.new ≡ slice_set (kept self.old) row tally };
 }
 
-impl<'a, T: Tally> Model for LentLedger<'a, T> {
+impl<'a, T: Tally> LentRows for &'a mut [T] {
+    type Kept = T;
+
+    ghost kept = { λ rows. rows.now };
+
+    fn kept(&self) -> &[T] {
+        self
+    }
+
+    fn keep(&mut self, row: usize, tally: T) {
+        put(self, row, tally);
+    }
+}
+
+/// A ledger over lent rows.
+#[derive(Drop)]
+pub struct LedgerOver<R: LentRows> {
+    rows: R,
+}
+
+impl<R: LentRows> Model for LedgerOver<R> {
     ghost use Rattle.std.specs.Prelude.{List, map};
     ghost use Rattle.ledger.specs.declared.row.Row.{Row};
 
     ghost Value = { List Row };
 
-    ghost view = { λ ledger. map T.kept_row ledger.rows.now };
+    ghost view = { λ ledger. map R.Kept.kept_row (R.kept ledger.rows) };
 }
+
+/// A ledger over the caller's rows.
+pub type LentLedger<'a, T> = LedgerOver<&'a mut [T]>;
 
 /// The ledger that keeps two numbers a row.
 pub type Counts<'a> = LentLedger<'a, Row>;
 
 impl<'a, T: Tally> LentLedger<'a, T> {
     /// Makes each of the caller's rows fresh.
+    #[tactic(auto, using(crate::proofs::Filling::map_replicate))]
     pub fn new(rows: &'a mut [T]) -> Self
         ensures { result ≡ replicate (length rows.old) fresh_row }
     {
         fill(rows, T::fresh());
-        LentLedger { rows }
+        LedgerOver { rows }
     }
+}
 
+impl<R: LentRows> LedgerOver<R> {
     // What is kept in a row; past the end a fresh one.
-    fn at(&self, row: usize) -> T
-        ensures { T.kept_row result ≡ row_at self.now row }
+    fn at(&self, row: usize) -> R::Kept
+        ensures { R.Kept.kept_row result ≡ row_at self.now row }
     {
-        match self.rows.get(row) {
+        match self.rows.kept().get(row) {
             Some(tally) => *tally,
-            None => T::fresh(),
+            None => R::Kept::fresh(),
         }
     }
 
     // Past the end nothing is kept.
-    fn keep(&mut self, row: usize, tally: T)
-        ensures { self.new ≡ slice_set self.old row (T.kept_row tally) }
+    fn keep(&mut self, row: usize, tally: R::Kept)
+        ensures { self.new ≡ slice_set self.old row (R.Kept.kept_row tally) }
     {
-        put(self.rows, row, tally);
+        self.rows.keep(row, tally);
     }
 }
 
-impl<'a, T: Tally> Ledger for LentLedger<'a, T> {
-    type Kept = T;
+impl<R: LentRows> Ledger for LedgerOver<R> {
+    const MOST: u64 = <R::Kept as Tally>::MOST;
+
+    ghost MOST = { R.Kept.MOST };
 
     ghost rows = { λ ledger. ledger };
 
-    ghost peak = { T.MOST };
+    ghost peak = { R.Kept.MOST };
 
     fn limit() -> u64 {
-        T::MOST
+        Self::MOST
     }
 
     fn len(&self) -> usize {
-        self.rows.len()
+        self.rows.kept().len()
     }
 
     fn fresh(&mut self, row: usize) {
-        self.keep(row, T::fresh());
+        self.keep(row, R::Kept::fresh());
     }
 
     fn begin_sync(&self, row: usize) -> u64 {

@@ -9,6 +9,6 @@ pub mod tally;
 
 pub use laws::ledgers_answer_by_their_record;
 pub use ledger::Ledger;
-pub use lent::{Counts, LentLedger};
+pub use lent::{Counts, LedgerOver, LentLedger, LentRows};
 pub use row::Row;
 pub use tally::{Tally, counts_write};

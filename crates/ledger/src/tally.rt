@@ -93,11 +93,10 @@ pub trait Tally: Copy {
         ensures answer { result ≡ sync_answer (kept_row self.old).taint }
         ensures after { kept_row self.new ≡ ended_row seen (kept_row self.old) }
     {
-        if let Some(error) = self.taint() {
-            return error;
+        if self.taint().is_none() {
+            self.cover(seen);
         }
-        self.cover(seen);
-        Outcome::Ok
+        self.sync_answer()
     }
 
     /// Whether a completed write is not covered; the taint, where there is one.
