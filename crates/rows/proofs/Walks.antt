@@ -46,7 +46,7 @@ total_end v i h = at_drop_all total v i h
 
 -- a cursor's way
 
-along_at : (v : List ChunkRow) (i c o n : ℕ) → i < length v →
+pub along_at : (v : List ChunkRow) (i c o n : ℕ) → i < length v →
     along (drop i v) c o n ≡ cond (ltb n ((get_or v i blank).length - o)) (record { row = c; within = o + n }) (along (drop (i + 1) v) (c + 1) 0 (n - ((get_or v i blank).length - o)))
 unfolding along
 along_at v i c o n h = at_drop_more (λ rs. along rs c o n) v i blank h

@@ -171,7 +171,7 @@ Unfulfilled table (wanted.DirectReadAt f d offset m place capacity) t sy = Cover
 Unfulfilled table (wanted.WriteAt f offset s m cache) t sy = Covers table (wanted.WriteAt f offset s m cache) t → SyncedIf m sy → ⊥
 Unfulfilled table (wanted.Sync f) t sy = Unit {0}
 
-failing : (table : List ChunkRow) (w : Wanted) (t : Tried) (sy : Bool) (o : Outcome) → (o ≡ outcome.Ok → ⊥) → Unfulfilled table w t sy → Means table w t sy o
+pub failing : (table : List ChunkRow) (w : Wanted) (t : Tried) (sy : Bool) (o : Outcome) → (o ≡ outcome.Ok → ⊥) → Unfulfilled table w t sy → Means table w t sy o
 failing table (wanted.Send d s) t sy o e u = λ k. absurd (e k)
 failing table (wanted.Recv d b m true) t sy o e u = λ k. absurd (e k)
 failing table (wanted.Recv d b m false) t sy o e u = λ k. absurd (e k)

@@ -56,7 +56,7 @@ module _ (table : List ChunkRow) (d : ℕ) (s : Source) (sy : Bool) where
 
 -- writes
 
-synced_true : (m : WriteMode) → SyncedIf m true
+pub synced_true : (m : WriteMode) → SyncedIf m true
 synced_true mode.Writing = tt
 synced_true mode.WritingSync = tt
 synced_true mode.WritingBeforeSync = refl
