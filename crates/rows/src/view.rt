@@ -33,14 +33,14 @@ impl<'a> Model for Rows<'a> {
 pub(crate) fn front(rows: &[ChunkRow], n: usize) -> &[ChunkRow]
     ensures { result.now ≡ take n rows.now }
 {
-    rows.get(..n).unwrap_or(rows)
+    &rows[..n.min(rows.len())]
 }
 
 // The rows behind so many.
 pub(crate) fn behind(rows: &[ChunkRow], n: usize) -> &[ChunkRow]
     ensures { result.now ≡ drop n rows.now }
 {
-    rows.get(n..).unwrap_or(&[])
+    &rows[n.min(rows.len())..]
 }
 
 // Whether a row range has two rows or more and ends with the table or before.
