@@ -10,16 +10,13 @@ pub trait Ledger {
     /// The most that the completed writes of a row can reach.
     const MOST: u64;
 
-    ghost MOST: { ℕ };
-
     ghost rows: { Self → List Row };
 
     ghost peak: { ℕ };
 
-    /// The constant, which the contracts of the calls name `peak`.
+    /// The constant, which contracts call `peak`.
     fn limit() -> u64
-        ensures peak { result ≡ peak }
-        ensures constant { result ≡ MOST };
+        ensures { result ≡ peak };
 
     /// How many rows there are.
     fn len(&self) -> usize

@@ -2,5 +2,7 @@
 #![tactic(auto)]
 
 pub mod mark;
+pub mod marks;
 
-pub use mark::{Mark, MarkRow, Marks};
+pub use mark::{Mark, MarkRow};
+pub use marks::Marks;

@@ -4,7 +4,7 @@ ghost use Rattle.std.proofs.Common.{rules};
 ghost use Rattle.ledger.specs.Meaning.{fresh_row, first_error, tainted_row, counted, covers_now, ended_by};
 ghost use Rattle.marks.specs.Marking.{completed_marks, covered_marks, is_unused, opened_at, covered_mark, left_after, cover_first, covered_row, seen_row, fresh_marks};
 
-use ledger::{LentLedger, Row, Tally};
+use ledger::{Row, Tally};
 use records::{Exact, Outcome, Same};
 
 /// One write that a row can count.
@@ -32,9 +32,6 @@ pub struct MarkRow {
     marks: [Mark; 256],
     taint: Option<Outcome>,
 }
-
-/// The ledger that keeps a mark for each write.
-pub type Marks<'a> = LentLedger<'a, MarkRow>;
 
 // The completed and the covered writes, in one walk: two filtered counts took twice the time.
 fn tally(marks: &[Mark]) -> (u64, u64)

@@ -1,5 +1,5 @@
 //! What a call costs, by the size of the tables.
-use ledger::{Ledger, LentLedger, Row, Tally};
+use ledger::{LentLedger, Row, Tally};
 use marks::MarkRow;
 use records::{Outcome, WriteAtState};
 use slots::{Slab, Slot};
@@ -30,7 +30,7 @@ fn turn_slab(slab: &mut Slab<u64>, entries: u32) -> u64 {
 }
 
 // A write and the sync that covers it, on each row.
-fn turn_ledger<L: Ledger>(ledger: &mut L, rows: u32) -> u64 {
+fn turn_ledger<T: Tally>(ledger: &mut LentLedger<T>, rows: u32) -> u64 {
     let mut seen = 0u64;
     for row in 0..rows as usize {
         ledger.wrote(row, WriteAtState::Writing, Outcome::Ok);
