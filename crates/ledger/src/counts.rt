@@ -9,7 +9,7 @@ use records::{Outcome, WriteAtState};
 /// A ledger over the caller's rows.
 pub type Counts<'a> = LentLedger<'a, Row>;
 
-// Not one impl for every `LentLedger`: of a constant that an impl for a type parameter gives, a proof knows nothing.
+// Not one impl for every `LentLedger`: of a constant that an impl with a type parameter gives, a proof knows nothing.
 impl<'a> Ledger for Counts<'a> {
     const MOST: u64 = 18446744073709551615;
 
